@@ -1,0 +1,4 @@
+//! The checker of packed trees, and templates that passed it.
+
+mod check;
+pub mod template;

@@ -1,0 +1,57 @@
+//! The values that a literal may have, read in place.
+
+ghost use mathlib.Core.Path.{_≡_};
+ghost use Prim.Native.Nat.{_≤_};
+ghost use lib.ListN.{length};
+ghost use Rattle.reader.specs.Meanings.{plain-of};
+ghost use Rattle.reader.specs.Fields.{Strictly, Takes, Within};
+ghost use Rattle.reader.specs.AfterByte.{plain-after, plain-head};
+use crate::field::read_byte;
+use crate::field::read_slice;
+use crate::field::read_text;
+
+/// A value without parts, as a literal has it: numbers as their eight bytes, the lowest first.
+#[derive(Clone, Copy)]
+pub enum PlainValue<'a> {
+    Nothing,
+    False,
+    True,
+    Integer(&'a [u8]),
+    Float(&'a [u8]),
+    String(&'a [u8]),
+}
+
+/// The rest of a value's command, after its byte.
+fn plain_fields<'a>(tree: &'a [u8], pos: usize, byte: u8) -> Option<(PlainValue<'a>, usize)>
+    requires { ⌜ pos ≤ length (now tree) ⌝ }
+    ensures same { λ r. ⌜ Takes plain-of (now (tree .entry)) pos (plain-after byte) r ⌝ }
+    ensures moves { λ r. ⌜ Within (now (tree .entry)) pos r ⌝ }
+{
+    match byte {
+        0x20 => Some((PlainValue::Nothing, pos)),
+        0x21 => Some((PlainValue::False, pos)),
+        0x22 => Some((PlainValue::True, pos)),
+        0x23 => {
+            let (integer, end) = read_slice(tree, pos, 8)?;
+            Some((PlainValue::Integer(integer), end))
+        }
+        0x24 => {
+            let (float, end) = read_slice(tree, pos, 8)?;
+            Some((PlainValue::Float(float), end))
+        }
+        0x25 => {
+            let (string, end) = read_text(tree, pos)?;
+            Some((PlainValue::String(string), end))
+        }
+        _ => None,
+    }
+}
+
+/// The next command, where a literal's value is due.
+pub fn plain_value<'a>(tree: &'a [u8], pos: usize) -> Option<(PlainValue<'a>, usize)>
+    ensures same { λ r. ⌜ Takes plain-of (now (tree .entry)) pos plain-head r ⌝ }
+    ensures moves { λ r. ⌜ Strictly (now (tree .entry)) pos r ⌝ }
+{
+    let (byte, next) = read_byte(tree, pos)?;
+    plain_fields(tree, next, byte)
+}
