@@ -1,3 +1,5 @@
 pub mod Rests
 pub mod Statements
 pub mod Wholes
+pub mod TreeHeads
+pub mod There

@@ -1,3 +1,5 @@
 pub mod Rests
 pub mod Whole
 pub mod Templates
+pub mod TreeHeads
+pub mod There

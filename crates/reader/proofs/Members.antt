@@ -171,3 +171,17 @@ members-there tree n at start end within e =
     let here : drop (end - start) (drop start tree) ≡ drop end tree = drop-drop (end - start) start tree ∙ ap (λ k. drop k tree) whole in
     let left : length (drop start tree) ≡ length tree - start = length-drop start tree in
     sym (rw (sym here) (decoded-there n at (end - start) (drop start tree) (omega arith) (rw here e)))
+
+-- MEMBERS ONE BY ONE
+
+pub decoded-more : (left n : ℕ) (m : Member) (s u : List ℕ) → left ≡ suc n → read m u ≡ member 0 s → decoded left s ≡ m ∷ decoded n u
+unfolding decoded
+decoded-more left n m s u one e = rw (one, sym e)
+
+pub decoded-stops : (left n : ℕ) (s : List ℕ) → left ≡ suc n → refused Malformed 0 ≡ member 0 s → decoded left s ≡ []
+unfolding decoded
+decoded-stops left n s one e = rw (one, sym e)
+
+pub decoded-none : (left : ℕ) (s : List ℕ) → left ≡ 0 → decoded left s ≡ []
+unfolding decoded
+decoded-none left s none = rw none

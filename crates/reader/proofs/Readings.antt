@@ -81,3 +81,17 @@ unfolding word bytes byte from-little-endian
 word-is zero at s small = refl
 word-is (suc k) at [] small = refl
 word-is (suc k) at (b ∷ s) small = rw (lt-ltb b 256 (small .0), word-is k at s (small .1)) (added k b (bytes k at s))
+
+-- eight bytes, each by its weight
+pub eight-is : (s : List ℕ) → length s ≡ 8 → getD s 0 0 + getD s 1 0 * 256 + getD s 2 0 * 65536 + getD s 3 0 * 16777216 + getD s 4 0 * 4294967296 + getD s 5 0 * 1099511627776 + getD s 6 0 * 281474976710656 + getD s 7 0 * 72057594037927936 ≡ from-little-endian 8 s
+unfolding from-little-endian
+eight-is [] long = absurd (omega arith)
+eight-is (a ∷ []) long = absurd (omega arith)
+eight-is (a ∷ b ∷ []) long = absurd (omega arith)
+eight-is (a ∷ b ∷ c ∷ []) long = absurd (omega arith)
+eight-is (a ∷ b ∷ c ∷ d ∷ []) long = absurd (omega arith)
+eight-is (a ∷ b ∷ c ∷ d ∷ e ∷ []) long = absurd (omega arith)
+eight-is (a ∷ b ∷ c ∷ d ∷ e ∷ f ∷ []) long = absurd (omega arith)
+eight-is (a ∷ b ∷ c ∷ d ∷ e ∷ f ∷ g ∷ []) long = absurd (omega arith)
+eight-is (a ∷ b ∷ c ∷ d ∷ e ∷ f ∷ g ∷ h ∷ []) long = omega arith
+eight-is (a ∷ b ∷ c ∷ d ∷ e ∷ f ∷ g ∷ h ∷ i ∷ s) long = absurd (omega arith)

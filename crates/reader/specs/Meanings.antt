@@ -1,5 +1,10 @@
 -- What the commands that the code hands out stand for.
+use Prim.Native.Nat.{ℕ}
 use mathlib.Core.Bool.{true, false}
+use mathlib.Core.Path.{_≡_}
+use lib.ListN.{length}
+use Rattle.std.specs.declared.option.Option.{Option}
+use Rattle.std.specs.declared.option.Option.the-variants.{Some, None}
 use Rattle.meaning.specs.Value.{Value, none, boolean, integer, float, string}
 use Rattle.meaning.specs.Bytes.{from-little-endian, twos-complement}
 use Rattle.reader.specs.declared.command.BaseCommand.{BaseCommand}
@@ -51,3 +56,16 @@ plain-of plain.True = boolean true
 plain-of (plain.Integer b) = integer (twos-complement 64 (from-little-endian 8 (b .now)))
 plain-of (plain.Float b) = float (from-little-endian 8 (b .now))
 plain-of (plain.String b) = string (b .now)
+
+-- the numbers have eight bytes
+abbrev pub eight-bytes : PlainValue → Type 0
+eight-bytes plain.Nothing = Unit {0}
+eight-bytes plain.False = Unit {0}
+eight-bytes plain.True = Unit {0}
+eight-bytes (plain.Integer b) = length (b .now) ≡ 8
+eight-bytes (plain.Float b) = length (b .now) ≡ 8
+eight-bytes (plain.String b) = Unit {0}
+
+abbrev pub Eight : Option (PlainValue × ℕ) → Type 0
+Eight (Some r) = eight-bytes (r .0)
+Eight None = Unit {0}

@@ -6,7 +6,7 @@ ghost use Prim.Native.Nat.{ℕ, _≤_};
 ghost use lib.ListN.{length};
 ghost use Rattle.packing.specs.Reader.{byte, bytes, flag, word};
 ghost use Rattle.packing.specs.Unpacking.{access-of, member, more-members, op-of, span, string-of, text};
-ghost use Rattle.reader.specs.Fields.{Onward, Passes, Strictly, Takes, Within, as-it-is, members-of, now-of, text-of, variable-members};
+ghost use Rattle.reader.specs.Fields.{Long, Onward, Passes, Strictly, Takes, Within, as-it-is, members-of, now-of, text-of, variable-members};
 use crate::text::is_text;
 use meaning::tree::Access;
 use meaning::tree::AccessOp;
@@ -79,6 +79,7 @@ pub fn read_slice<'a>(tree: &'a [u8], pos: usize, size: usize) -> Option<(&'a [u
     requires { ⌜ pos ≤ length (now tree) ⌝ }
     ensures same { λ r. ⌜ Takes now-of (now (tree .entry)) pos (bytes size) r ⌝ }
     ensures moves { λ r. ⌜ Within (now (tree .entry)) pos r ⌝ }
+    ensures long { λ r. ⌜ Long size r ⌝ }
 {
     if size <= tree.len() - pos {
         Some((&tree[pos..pos + size], pos + size))

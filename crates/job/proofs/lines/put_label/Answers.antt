@@ -1,0 +1,6 @@
+use Rattle.job.proofs.Writing.{then-wrote}
+use Rattle.job.proofs.lines.put_label.Needs as need
+
+pub returns : need.returns
+returns c =
+    then-wrote (c .put .result) (c .in-Continue-put-indent .ensures tt .adds) (c .put .ensures)

@@ -1,0 +1,8 @@
+use Rattle.job.proofs.Writing.{then-adds, then-wrote}
+use Rattle.job.proofs.lines.put_spans_line.Needs as need
+
+pub returns : need.returns
+returns c =
+    then-wrote (c .put .result)
+    (then-adds (then-adds (c .in-Continue-put-label .ensures tt .adds) (c .in-Continue-put-mark .ensures tt .adds)) (c .in-Continue-put-mark-2 .ensures tt .adds))
+    (c .put .ensures)

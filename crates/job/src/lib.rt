@@ -1,0 +1,3 @@
+//! Jobs: what is asked for, a call a line, and the report of what was found.
+
+mod lines;
