@@ -3,3 +3,5 @@ pub mod Statements
 pub mod Wholes
 pub mod TreeHeads
 pub mod There
+pub mod Parts
+pub mod Walking

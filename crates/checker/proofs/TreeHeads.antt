@@ -6,16 +6,19 @@ use mathlib.Core.Bool.{Bool, true, false}
 use native.Mathlib.Omega.{arith}
 use borrow.Author.Tests.{le-leb}
 use lib.ListN.{length}
+use Rattle.meaning.specs.Value.{Value}
 use Rattle.meaning.specs.declared.tree.Span.{Span}
 use Rattle.meaning.specs.Tree.{String, Expr, BaseExpr, Stmt, Scope, Base, Filter, Variable, Literal, ListOf, MapOf, Paren, Call, Args, no-pairs, pair, count-args, count-pairs, members, Item, KeyValue, Raw, Inline, Include, IncludeWith, If, IfElse, For, With, done, _then_}
 use Rattle.packing.specs.Packing.{flag-byte, pack-span, pack-string, pack-value, pack-members, pack-expr, pack-base, pack-args, pack-pairs, pack, pack-stmt}
-use Rattle.packing.specs.Limits.{Inside, String-fits, Base-fits, Expr-fits, Stmt-fits, Scope-fits, Vars-fit, most-bytes}
+use Rattle.packing.specs.Limits.{Inside, Simple, Value-fits, String-fits, Base-fits, Expr-fits, Stmt-fits, Scope-fits, Vars-fit, most-bytes}
 use Rattle.meaning.specs.Step.{return, continue}
 use Rattle.packing.specs.Reader.{read, byte, coded, command, flag}
 use Rattle.packing.specs.Unpacking.{span, string-of, variable}
+use Rattle.packing.proofs.Values.{plain-command-reads}
 use Rattle.packing.proofs.Readers.{byte-reads, flag-reads}
 use Rattle.packing.proofs.Fields.{Short, span-reads, string-reads, inside-short, variable-reads}
 use Rattle.packing.proofs.Exprs.{ranged-members, short-members}
+use Rattle.reader.specs.AfterByte.{plain-head}
 use Rattle.reader.specs.Fields.{variable-members}
 use Rattle.reader.specs.Heads.{BaseOf, StmtOf, base-head, expr-head, scope-head, base-fields, expr-fields, stmt-fields, scope-fields, map-fields, map-head, callee, Callee}
 use Rattle.checker.specs.TreeHeads.{base-head-of, base-behind, expr-head-of, expr-behind, stmt-head-of, stmt-behind, scope-head-of, scope-behind}
@@ -24,7 +27,7 @@ module _ (source : List ℕ) (short : length source ≤ most-bytes) (at : ℕ) w
   placed-span : (s : Span) (u : List ℕ) → Inside source s → span at (pack-span s ++ u) ≡ read s u
   placed-span s u inside = span-reads at s u (inside-short source short s inside)
 
-  placed-string : (k : String) (u : List ℕ) → String-fits source k → string-of at (pack-string k ++ u) ≡ read k u
+  pub placed-string : (k : String) (u : List ℕ) → String-fits source k → string-of at (pack-string k ++ u) ≡ read k u
   placed-string k u fits = string-reads at k u (inside-short source short (k .span) (fits .placed)) (fits .fits)
 
   callee-reads : (most n : ℕ) (name whole : Span) (u : List ℕ) → n ≤ most → most < 256 → Inside source name → Inside source whole → callee most at (pack-span name ++ (pack-span whole ++ (n ∷ u))) ≡ read (record { name = name; whole = whole; count = n }) u
@@ -78,3 +81,8 @@ module _ (source : List ℕ) (short : length source ≤ most-bytes) (at : ℕ) w
   unfolding pack-stmt scope-head scope-fields command byte coded
   scope-head-reads done u fits = refl
   scope-head-reads (s then c) u fits = rw (append-assoc (pack-stmt s) (pack c) u, append-assoc (stmt-behind s) (pack c) u) (stmt-head-reads s (pack c ++ u) (fits .0))
+
+-- a literal's value
+pub plain-head-reads : (at : ℕ) (v : Value) (u : List ℕ) → Simple v → Value-fits v → plain-head at (pack-value v ++ u) ≡ read v u
+unfolding plain-head
+plain-head-reads at v u simple fits = plain-command-reads at v u simple fits
