@@ -5,3 +5,4 @@ pub mod TreeHeads
 pub mod There
 pub mod Parts
 pub mod Walking
+pub mod WholeThere

@@ -59,3 +59,11 @@ module _ {X H : Type 0} (means : X → H) (head : ℕ → Reader H) (tree : List
       finish (λ k u. (means x ≡ k) × (drop next tree ≡ u)) (takes 0 ∙ here 0) (refl, refl) in
       let end = stands-before tree next (pos + length packed) behind inside (stands .within) (both .1) in
       record { head = both .0; ends = end .0; stands = end .1 }
+
+-- three parts, of which the first two belong together
+pub three-stand : (tree : List ℕ) (pos : ℕ) (a b c : List ℕ) → Stands tree pos (a ++ (b ++ c)) → Stands tree pos (a ++ b) × Stands tree (pos + length a + length b) c
+three-stand tree pos a b c s =
+    let t = subst (Stands tree pos) (sym (append-assoc a b c)) s in
+    let size : length (a ++ b) ≡ length a + length b = length-append a b in
+    let there : pos + length (a ++ b) ≡ pos + length a + length b = omega arith in
+    (first-part tree pos (a ++ b) c t, subst (λ k. Stands tree k c) there (second-part tree pos (a ++ b) c t))

@@ -5,13 +5,14 @@ use mathlib.Core.List.{List, [], _++_, append-assoc, append-nil}
 use native.Mathlib.Omega.{arith}
 use lib.ListN.{length, length-append}
 use Rattle.meaning.specs.Bytes.{little-endian}
-use Rattle.meaning.specs.Tree.{BaseExpr, String, Args, Pairs, no-args, arg, no-pairs, pair, count-args, count-pairs}
-use Rattle.packing.specs.Limits.{Args-fit, Pairs-fit}
-use Rattle.packing.specs.Packing.{pack-span, pack-text, pack-string, pack-base, pack-args, pack-pairs}
+use Rattle.meaning.specs.Tree.{BaseExpr, String, Args, Pairs, no-args, arg, no-pairs, pair, count-args, count-pairs, Stmt, Scope, done, _then_}
+use Rattle.packing.specs.Limits.{Args-fit, Pairs-fit, Scope-fits}
+use Rattle.packing.specs.Packing.{pack-span, pack-text, pack-string, pack-base, pack-args, pack-pairs, pack}
 use Rattle.checker.specs.There.{Stands}
+use Rattle.checker.specs.TreeHeads.{scope-behind, stmt-behind}
 use Rattle.checker.proofs.Walking.{Args-parts, args-parts, Pairs-parts, pairs-parts}
 use Rattle.job.specs.Lines.{Adds, string-line}
-use Rattle.job.specs.Outline.{outline-base, outline-args, outline-pairs}
+use Rattle.job.specs.Outline.{outline-base, outline-args, outline-pairs, outline-stmt, outline-scope}
 use lib.Chars.{codes}
 
 pub record ArgsLeft (source tree : List ℕ) (depth : ℕ) (all : Args) (end : ℕ) (before : List ℕ) (left at : ℕ) (now : List ℕ) : Type 0 where
@@ -96,6 +97,42 @@ module _ (source tree : List ℕ) (depth end : ℕ) (before : List ℕ) where
       by : (rest : Pairs) → count-pairs rest ≡ 0 → at + length (pack-pairs rest) ≡ end → now ++ outline-pairs source depth rest ≡ before ++ outline-pairs source depth all → (at ≡ end) × Adds (outline-pairs source depth all) before now
       by no-pairs counted ends text = (omega arith, record { is = sym (append-nil now) ∙ text })
       by (pair k b ps) counted ends text = absurd (omega arith)
+
+-- STATEMENTS
+
+pub record ScopeLeft (source tree : List ℕ) (depth : ℕ) (all : Scope) (end : ℕ) (before : List ℕ) (at : ℕ) (now : List ℕ) : Type 0 where
+  pub rest : Scope
+  pub fits : Scope-fits source rest
+  pub stands : Stands tree at (pack rest)
+  pub ends : at + length (pack rest) ≡ end
+  pub text : now ++ outline-scope source depth rest ≡ before ++ outline-scope source depth all
+
+module _ (source tree : List ℕ) (depth end : ℕ) (before : List ℕ) where
+  -- one statement more
+  pub scope-more : (all : Scope) (at next after : ℕ) (now later : List ℕ) → (l : ScopeLeft source tree depth all end before at now) → next + length (scope-behind (l .rest)) ≡ at + length (pack (l .rest)) → (s : Stmt) (rest : Scope) → l .rest ≡ s then rest → Scope-fits source rest → Stands tree (next + length (stmt-behind s)) (pack rest) → after ≡ next + length (stmt-behind s) → Adds (outline-stmt source depth s) now later → ScopeLeft source tree depth all end before after later
+  unfolding outline-scope
+  scope-more all at next after now later l behind s rest is fits stands moved adds =
+      let size : length (scope-behind (l .rest)) ≡ length (stmt-behind s) + length (pack rest) = ap (λ x. length (scope-behind x)) is ∙ length-append (stmt-behind s) (pack rest) in
+      let ends = l .ends in
+      record {
+        rest = rest;
+        fits = fits;
+        stands = subst (λ k. Stands tree k (pack rest)) (sym moved) stands;
+        ends = omega arith;
+        text =
+            ap (λ (x : List ℕ). x ++ outline-scope source depth rest) (adds .is)
+            ∙ append-assoc now (outline-stmt source depth s) (outline-scope source depth rest)
+            ∙ ap (λ x. now ++ outline-scope source depth x) (sym is)
+            ∙ l .text;
+      }
+
+  -- the end
+  pub scope-all : (all : Scope) (at next : ℕ) (now : List ℕ) → (l : ScopeLeft source tree depth all end before at now) → l .rest ≡ done → next + length (scope-behind (l .rest)) ≡ at + length (pack (l .rest)) → (next ≡ end) × Adds (outline-scope source depth all) before now
+  unfolding outline-scope
+  scope-all all at next now l is behind =
+      let ends = l .ends in
+      let nothing : length (scope-behind (l .rest)) ≡ 0 = ap (λ x. length (scope-behind x)) is in
+      (omega arith, record { is = sym (append-nil now) ∙ ap (λ x. now ++ outline-scope source depth x) (sym is) ∙ l .text })
 
 -- a string has some bytes, its span at least
 pub string-some : (k : String) → 1 ≤ length (pack-string k)

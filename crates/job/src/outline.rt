@@ -3,19 +3,31 @@
 //! Each function takes the position that it reads from and answers the position after what it read.
 
 ghost use Prim.Native.Nat.{_+_};
+ghost use mathlib.Core.Path.{_≡_};
 ghost use Rattle.std.specs.Of.Vec.{vec-items};
-ghost use Rattle.checker.specs.There.{ArgsThere, BaseThere, BehindBase, ExprThere, PairsThere, ValueThere};
-ghost use Rattle.job.specs.Outlined.{ArgsOutlined, BaseOutlined, BehindOutlined, ExprOutlined, PairsOutlined, ValueOutlined, Walk};
-ghost use Rattle.reader.specs.Meanings.{base-of};
+ghost use Rattle.meaning.specs.Or.{gives};
+ghost use Rattle.meaning.specs.Tree.{Scope};
+ghost use Rattle.packing.specs.Unpacking.{unpack};
+ghost use Rattle.checker.specs.Templates.{source-of, tree-of};
+ghost use Rattle.checker.specs.There.{ArgsThere, BaseThere, BehindBase, BehindStmt, ExprThere, NestedThere, PairsThere, ScopeThere, ValueThere};
+ghost use Rattle.job.specs.Lines.{Wrote};
+ghost use Rattle.job.specs.Outline.{if-label, outline-scope};
+ghost use Rattle.job.specs.Outlined.{ArgsOutlined, BaseOutlined, BehindOutlined, ExprOutlined, NestedOutlined, PairsOutlined, ScopeOutlined, StmtOutlined, ValueOutlined, Walk};
+ghost use Rattle.reader.specs.Meanings.{base-of, stmt-of};
+use crate::lines::put_label_line;
 use crate::lines::put_members_line;
 use crate::lines::put_span_line;
 use crate::lines::put_spans_line;
 use crate::lines::put_string_line;
 use crate::lines::put_value_line;
+use checker::template::Template;
 use reader::command::BaseCommand;
 use reader::command::ExprCommand;
+use reader::command::ScopeCommand;
+use reader::command::StmtCommand;
 use reader::command::base_command;
 use reader::command::expr_command;
+use reader::command::scope_command;
 use reader::field::read_string;
 use reader::literal::plain_value;
 use std::alloc::AllocError;
@@ -177,4 +189,123 @@ fn outline_pairs(
         at = outline_base(heap, source, tree, next, depth + 1, out)?;
     }
     Ok(at)
+}
+
+/// The label of an if.
+fn if_label(negated: bool) -> &'static [u8]
+    ensures { λ r. ⌜ now r ≡ if-label negated ⌝ }
+{
+    if negated { b"if not" } else { b"if" }
+}
+
+/// The statements of a scope, up to their end.
+fn outline_scope(
+    heap: Global,
+    source: &[u8],
+    tree: &[u8],
+    pos: usize,
+    depth: usize,
+    out: &mut Vec<u8>,
+) -> Result<usize, AllocError>
+    requires walk { ⌜ Walk (now source) (now tree) pos depth ⌝ }
+    requires there { ⌜ ScopeThere (now source) (now tree) pos ⌝ }
+    ensures { λ r. ⌜ ScopeOutlined (now (source .entry)) (now (tree .entry)) pos depth r (vec-items (now (out .entry))) (vec-items (now (out .exit))) ⌝ }
+{
+    let mut at = pos;
+    loop {
+        let Some((command, next)) = scope_command(tree, at) else {
+            unreachable()
+        };
+        match command {
+            ScopeCommand::End => return Ok(next),
+            ScopeCommand::Stmt(stmt) => {
+                at = outline_stmt(heap, source, tree, next, depth, stmt, out)?;
+            }
+        }
+    }
+}
+
+/// A statement, from behind its command on.
+fn outline_stmt(
+    heap: Global,
+    source: &[u8],
+    tree: &[u8],
+    pos: usize,
+    depth: usize,
+    command: StmtCommand,
+    out: &mut Vec<u8>,
+) -> Result<usize, AllocError>
+    requires walk { ⌜ Walk (now source) (now tree) pos (depth + 1) ⌝ }
+    requires there { ⌜ BehindStmt (now source) (now tree) (stmt-of command) pos ⌝ }
+    ensures { λ r. ⌜ StmtOutlined (now (source .entry)) (now (tree .entry)) pos depth r (vec-items (now (out .entry))) (vec-items (now (out .exit))) (stmt-of (command .entry)) ⌝ }
+{
+    match command {
+        StmtCommand::Raw(span) => {
+            put_span_line(heap, source, depth, b"raw", span, out)?;
+            Ok(pos)
+        }
+        StmtCommand::Inline => {
+            put_label_line(out, depth, b"inline")?;
+            outline_expr(heap, source, tree, pos, depth + 1, out)
+        }
+        StmtCommand::Include(name) => {
+            put_string_line(heap, source, depth, b"include", name, out)?;
+            Ok(pos)
+        }
+        StmtCommand::IncludeWith(name) => {
+            put_string_line(heap, source, depth, b"include with", name, out)?;
+            outline_expr(heap, source, tree, pos, depth + 1, out)
+        }
+        StmtCommand::If(negated) => {
+            put_label_line(out, depth, if_label(negated))?;
+            outline_nested(heap, source, tree, pos, depth, b"then", out)
+        }
+        StmtCommand::IfElse(negated) => {
+            put_label_line(out, depth, if_label(negated))?;
+            let after = outline_nested(heap, source, tree, pos, depth, b"then", out)?;
+            put_label_line(out, depth, b"else")?;
+            outline_scope(heap, source, tree, after, depth + 1, out)
+        }
+        StmtCommand::ForItem(span) => {
+            put_span_line(heap, source, depth, b"for", span, out)?;
+            outline_nested(heap, source, tree, pos, depth, b"do", out)
+        }
+        StmtCommand::ForPair(key, value, _) => {
+            put_spans_line(heap, source, depth, b"for", key, value, out)?;
+            outline_nested(heap, source, tree, pos, depth, b"do", out)
+        }
+        StmtCommand::With(span) => {
+            put_span_line(heap, source, depth, b"with", span, out)?;
+            outline_nested(heap, source, tree, pos, depth, b"do", out)
+        }
+    }
+}
+
+/// The expression of a block, a label, and the statements of the block.
+fn outline_nested(
+    heap: Global,
+    source: &[u8],
+    tree: &[u8],
+    pos: usize,
+    depth: usize,
+    label: &[u8],
+    out: &mut Vec<u8>,
+) -> Result<usize, AllocError>
+    requires walk { ⌜ Walk (now source) (now tree) pos (depth + 1) ⌝ }
+    requires there { ⌜ NestedThere (now source) (now tree) pos ⌝ }
+    ensures { λ r. ⌜ NestedOutlined (now (source .entry)) (now (tree .entry)) pos depth r (vec-items (now (out .entry))) (vec-items (now (out .exit))) (now (label .entry)) ⌝ }
+{
+    let after = outline_expr(heap, source, tree, pos, depth + 1, out)?;
+    put_label_line(out, depth, label)?;
+    outline_scope(heap, source, tree, after, depth + 1, out)
+}
+
+/// The outline of a template, a level deep.
+pub fn outline(heap: Global, template: &Template, out: &mut Vec<u8>) -> Result<(), AllocError>
+    ensures { λ r. ⌜ ((scope : Scope) → unpack (source-of (now (template .entry))) (tree-of (now (template .entry))) ≡ gives scope → Wrote (outline-scope (source-of (now (template .entry))) 1 scope) r (vec-items (now (out .entry))) (vec-items (now (out .exit)))) ⌝ }
+{
+    let source = template.source();
+    let tree = template.tree();
+    let _end = outline_scope(heap, source, tree, 0, 1, out)?;
+    Ok(())
 }

@@ -243,12 +243,12 @@ outline-args-loop-arg-again t c =
     let moved = c .in-Continue-at .ensures tt (record { base = parts .0; fits = parts .4; stands = parts .6 .0 }) .ends in (
       omega arith,
       λ w.
-      let count = c .args .count in
-      let one : count - c .loop-arg .-arg ≡ suc (count - (c .loop-arg .-arg + 1)) = omega arith in
-      let left = c .loop-arg .inv .1 w in
-      let parts = args-parts (c .args .source .now) (c .args .tree .now) (c .loop-arg .at) (left .rest) (count - (c .loop-arg .-arg + 1)) (left .counted ∙ one) (left .fits) (left .stands) in
-      let done = c .in-Continue-at .ensures tt (record { base = parts .0; fits = parts .4; stands = parts .6 .0 }) in
-      args-more (c .args .source .now) (c .args .tree .now) (c .args .depth) _ _ (w .args) _ _ (c .loop-arg .at) _ _ _ one left parts (done .ends) (done .wrote .adds),
+          let count = c .args .count in
+          let one : count - c .loop-arg .-arg ≡ suc (count - (c .loop-arg .-arg + 1)) = omega arith in
+          let left = c .loop-arg .inv .1 w in
+          let parts = args-parts (c .args .source .now) (c .args .tree .now) (c .loop-arg .at) (left .rest) (count - (c .loop-arg .-arg + 1)) (left .counted ∙ one) (left .fits) (left .stands) in
+          let done = c .in-Continue-at .ensures tt (record { base = parts .0; fits = parts .4; stands = parts .6 .0 }) in
+          args-more (c .args .source .now) (c .args .tree .now) (c .args .depth) _ _ (w .args) _ _ (c .loop-arg .at) _ _ _ one left parts (done .ends) (done .wrote .adds),
     )
 
 pub outline-args-returns : need.outline-args-returns
@@ -307,19 +307,19 @@ outline-pairs-loop-pair-again t c =
     let moved = c .in-Continue-at .ensures tt (record { base = parts .1; fits = parts .6; stands = subst (λ k. Stands (c .args .tree .now) k (pack-base (parts .1))) (sym next) (parts .9 .0) }) .ends in (
       omega arith,
       λ w.
-      let count = c .args .count in
-      let one : count - c .loop-pair .-pair ≡ suc (count - (c .loop-pair .-pair + 1)) = omega arith in
-      let left = c .loop-pair .inv .1 w in
-      let parts = pairs-parts (c .args .source .now) (c .args .tree .now) (c .loop-pair .at) (left .rest) (count - (c .loop-pair .-pair + 1)) (left .counted ∙ one) (left .fits) (left .stands) in
-      let inside = c .in-Some .ensures tt .moves in
-      let headed = string-headed (c .args .source .now) (c .args .tree .now) (c .loop-pair .at) (c .pre .walk .source-short) (parts .0) (parts .5) (parts .8) (c .in-Some .key) (c .in-Some .next) (inside .1) (c .in-Some .ensures tt .same) in
-      let ends = headed .ends in
-      let next : c .in-Some .next ≡ c .loop-pair .at + length (pack-string (parts .0)) = omega arith in
-      let done = c .in-Continue-at .ensures tt (record { base = parts .1; fits = parts .6; stands = subst (λ k. Stands (c .args .tree .now) k (pack-base (parts .1))) (sym next) (parts .9 .0) }) in
-      let after = done .ends in
-      pairs-more (c .args .source .now) (c .args .tree .now) (c .args .depth) _ _ (w .pairs) _ _ (c .loop-pair .at) _ _ _ _ one left parts (omega arith)
-      (adds-same (ap (λ (k : String). string-line (c .args .source .now) (c .args .depth) (codes "key") k) (headed .head)) (c .in-Continue-put-string-line .ensures tt .adds))
-      (done .wrote .adds),
+          let count = c .args .count in
+          let one : count - c .loop-pair .-pair ≡ suc (count - (c .loop-pair .-pair + 1)) = omega arith in
+          let left = c .loop-pair .inv .1 w in
+          let parts = pairs-parts (c .args .source .now) (c .args .tree .now) (c .loop-pair .at) (left .rest) (count - (c .loop-pair .-pair + 1)) (left .counted ∙ one) (left .fits) (left .stands) in
+          let inside = c .in-Some .ensures tt .moves in
+          let headed = string-headed (c .args .source .now) (c .args .tree .now) (c .loop-pair .at) (c .pre .walk .source-short) (parts .0) (parts .5) (parts .8) (c .in-Some .key) (c .in-Some .next) (inside .1) (c .in-Some .ensures tt .same) in
+          let ends = headed .ends in
+          let next : c .in-Some .next ≡ c .loop-pair .at + length (pack-string (parts .0)) = omega arith in
+          let done = c .in-Continue-at .ensures tt (record { base = parts .1; fits = parts .6; stands = subst (λ k. Stands (c .args .tree .now) k (pack-base (parts .1))) (sym next) (parts .9 .0) }) in
+          let after = done .ends in
+          pairs-more (c .args .source .now) (c .args .tree .now) (c .args .depth) _ _ (w .pairs) _ _ (c .loop-pair .at) _ _ _ _ one left parts (omega arith)
+          (adds-same (ap (λ (k : String). string-line (c .args .source .now) (c .args .depth) (codes "key") k) (headed .head)) (c .in-Continue-put-string-line .ensures tt .adds))
+          (done .wrote .adds),
     )
 
 pub outline-pairs-returns : need.outline-pairs-returns

@@ -65,7 +65,8 @@ pub returns-in-Continue-string : need.returns-in-Continue-string
 unfolding plain-after plain-value coded
 returns-in-Continue-string c = record {
   same = λ at. rw (c .in-37 .is, sym (c .in-Continue-string .ensures tt .same at));
-  moves = c .in-Continue-string .ensures tt .moves; eight = tt;
+  moves = c .in-Continue-string .ensures tt .moves;
+  eight = tt;
 }
 
 pub returns-in-rest : need.returns-in-rest
