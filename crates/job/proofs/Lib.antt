@@ -1,3 +1,5 @@
 pub mod Writing
 pub mod Rows
 pub mod Arms
+pub mod Wording
+pub mod Calling

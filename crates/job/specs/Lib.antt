@@ -1,3 +1,6 @@
+pub mod Options
+pub mod Words
+pub mod Calls
 pub mod Lines
 pub mod Outline
 pub mod Outlined
