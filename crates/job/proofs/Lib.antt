@@ -3,3 +3,4 @@ pub mod Rows
 pub mod Arms
 pub mod Wording
 pub mod Calling
+pub mod Reporting

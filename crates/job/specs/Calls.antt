@@ -1,11 +1,11 @@
 -- What a job's line asks for.
-use Prim.Native.Nat.{ℕ, _≤_}
+use Prim.Native.Nat.{ℕ, _-_, _≤_}
 use mathlib.Core.Path.{_≡_}
-use mathlib.Core.Bool.{cond}
+use mathlib.Core.Bool.{cond, _&&_}
 use mathlib.Core.List.{List, [], _∷_}
 use lib.Chars.{codes}
-use lib.Dec.{eqb}
-use lib.ListN.{length, take, drop}
+use lib.Dec.{eqb, ltb}
+use lib.ListN.{length, getD, take, drop}
 use Rattle.std.specs.Finite.{same-text}
 use Rattle.std.specs.Of.Vec.{vec-items}
 use Rattle.std.specs.declared.result.Result.{Result}
@@ -71,3 +71,8 @@ abbrev pub Skips : List ℕ → ℕ → Result ℕ Failure → Type 0
 Skips line pos (Ok next) = (space (drop pos line) ≡ gives (tt, drop next line)) × (next ≤ length line)
 Skips line pos (Err Memory) = Unit {0}
 Skips line pos (Err (Bad b)) = space (drop pos line) ≡ fails b
+
+-- the bytes without the last one, if it is that one
+abbrev pub without-last : List ℕ → ℕ → List ℕ
+without-last bytes last =
+    cond (ltb 0 (length bytes) && eqb (getD bytes (length bytes - 1) 0) last) (take (length bytes - 1) bytes) bytes

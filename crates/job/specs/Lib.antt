@@ -4,3 +4,5 @@ pub mod Calls
 pub mod Lines
 pub mod Outline
 pub mod Outlined
+pub mod Report
+pub mod Reported

@@ -3,4 +3,5 @@
 pub mod line;
 mod lines;
 mod outline;
+pub mod report;
 pub mod word;

@@ -2,7 +2,8 @@
 
 ghost use Prim.Native.Nat.{_≤_};
 ghost use lib.ListN.{length};
-ghost use Rattle.job.specs.Calls.{Asks, Skips};
+ghost use mathlib.Core.Path.{_≡_};
+ghost use Rattle.job.specs.Calls.{Asks, Skips, without-last};
 use crate::word::BadLine;
 use crate::word::Failure;
 use crate::word::read_word;
@@ -50,4 +51,23 @@ pub fn read_line(heap: Global, line: &[u8]) -> Result<Line, Failure>
         return Err(Failure::Bad(BadLine::MoreWords));
     }
     Ok(Line::Add(name, source, tree))
+}
+
+/// The bytes without the last one, if it is the given one.
+fn without_last(bytes: &[u8], last: u8) -> &[u8]
+    ensures { λ r. ⌜ now r ≡ without-last (now (bytes .entry)) last ⌝ }
+{
+    let len = bytes.len();
+    if len > 0 && bytes[len - 1] == last {
+        &bytes[0..len - 1]
+    } else {
+        bytes
+    }
+}
+
+/// A line without what ends it: a line feed, perhaps with a carriage return before it.
+pub fn content(line: &[u8]) -> &[u8]
+    ensures { λ r. ⌜ now r ≡ without-last (without-last (now (line .entry)) 10) 13 ⌝ }
+{
+    without_last(without_last(line, b'\n'), b'\r')
 }
