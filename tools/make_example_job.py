@@ -4,7 +4,8 @@
     python3 tools/make_example_job.py
 
 The archive has every template, packed, and behind them trees that were damaged, one for each way in
-which adding a template is refused.
+which adding a template is refused. It is written to crates/plot/stdin too, and the report that is
+expected of it to crates/plot/stdout.
 """
 
 import struct
@@ -13,9 +14,12 @@ from dataclasses import dataclass
 from pathlib import Path
 
 sys.dont_write_bytecode = True
+from expected_report import report
 from pack_template import TemplateError, pack, pack_file
 
-EXAMPLES = Path(__file__).resolve().parent.parent / "examples"
+ROOT = Path(__file__).resolve().parent.parent
+EXAMPLES = ROOT / "examples"
+PLOT = ROOT / "crates" / "plot"
 TEMPLATES = ("deviation_card", "pot_list", "mark_file", "footer")
 
 HEADER = """\
@@ -118,6 +122,23 @@ def damaged() -> list[Damaged]:
     ]
 
 
+# LINES THAT ARE NO CALLS
+
+
+def bad_words() -> list[str]:
+    """Adds with a word that is wrong, each behind a comment that says what it is."""
+    source, tree = quoted(POT), pack(POT).hex()
+    bad = [
+        ("a word is missing", f'add "two_words" {source}'),
+        ("two spaces between words", f'add "two_spaces"  {source} {tree}'),
+        ("a backslash before r", f'add "bad_escape" "Pot\\r" {tree}'),
+        ("a text without its closing quote", f'add "no_quote" {source[:-1]} {tree}'),
+        ("a fourth word", f'add "four_words" {source} {tree} {tree}'),
+        ("a byte that is no hexadecimal digit", f'add "no_digit" {source} {tree[:-1]}g'),
+    ]
+    return [line for what, call in bad for line in (f"# {what}", call)]
+
+
 # JOBS
 
 
@@ -134,22 +155,32 @@ def archive() -> list[str]:
     lines += ["# no such call", "adjust compass"]
     lines += ["# an odd number of hexadecimal digits", f"{add('odd_digits', quoted(POT), pack(POT))}0"]
     lines += ["", "# Still adds.", add("pot", quoted(POT), pack(POT))]
+    lines += ["", "# No calls: each of these has a word that is wrong, as it says.", *bad_words()]
+    lines += ["", "# Adds: a source in hexadecimal digits, and an empty one."]
+    lines += [add("pot_in_digits", POT.hex().upper(), pack(POT)), add("empty", "-", b"\x0a")]
     return lines
 
 
-def write(name: str, lines: list[str]) -> None:
-    path = EXAMPLES / name
-    path.write_bytes(("\n".join(lines) + "\n").encode())
-    print(f"{path}: {len(lines)} lines")
+def job(lines: list[str]) -> bytes:
+    return ("\n".join(lines) + "\n").encode()
+
+
+def write(path: Path, content: bytes) -> None:
+    path.write_bytes(content)
+    count = content.count(b"\n")
+    print(f"{path}: {count} lines")
 
 
 def main() -> int:
     try:
-        write("archive.job", archive())
+        archive_job = job(archive())
     except TemplateError as error:
         print(error, file=sys.stderr)
         return 1
-    write("pot.job", [add("a", quoted(POT), pack(POT))])
+    write(EXAMPLES / "archive.job", archive_job)
+    write(EXAMPLES / "pot.job", job([add("a", quoted(POT), pack(POT))]))
+    write(PLOT / "stdin", archive_job)
+    write(PLOT / "stdout", report(archive_job))
     return 0
 
 

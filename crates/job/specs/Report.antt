@@ -50,7 +50,7 @@ cause-words Cause.TextTooLong = codes "a formatter's text is too long"
 
 -- why a line is no call
 abbrev pub bad-words : BadLine → List ℕ
-bad-words BadLine.NoCall = codes "no call that is known"
+bad-words BadLine.NoCall = codes "it begins with no call that is known"
 bad-words BadLine.MissingWord = codes "a word is missing"
 bad-words BadLine.NotHex = codes "a word is neither hexadecimal digits, -, nor text in double quotes"
 bad-words BadLine.OddDigits = codes "a word has an odd number of hexadecimal digits"
@@ -84,7 +84,7 @@ abbrev pub call-words : (line-number : ℕ) → Or BadLine Call → List ℕ
 call-words n (gives passed-over) = []
 call-words n (gives (add name source tree)) =
     heading n ++ codes "add " ++ quoted name ++ verdict-words source tree (unpack source tree)
-call-words n (fails bad) = heading n ++ codes "no call, " ++ bad-words bad ++ codes "\n"
+call-words n (fails bad) = heading n ++ codes "bad line, " ++ bad-words bad ++ codes "\n"
 
 abbrev pub came-of-add : Or Fault Scope → Came
 came-of-add (gives scope) = Came.Taken
@@ -98,4 +98,4 @@ came-of (fails bad) = Came.NoCall
 -- the last line of a report
 abbrev pub counts-words : Counts → List ℕ
 counts-words c =
-    decimal (c .taken) ++ (codes " taken, " ++ (decimal (c .refused) ++ (codes " refused, " ++ (decimal (c .bad) ++ codes " no calls\n"))))
+    decimal (c .taken) ++ (codes " taken, " ++ (decimal (c .refused) ++ (codes " refused, " ++ (decimal (c .bad) ++ codes " bad lines\n"))))

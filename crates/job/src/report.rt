@@ -78,7 +78,7 @@ pub fn words_of_bad(bad: BadLine) -> &'static [u8]
     ensures { λ r. ⌜ now r ≡ bad-words bad ⌝ }
 {
     match bad {
-        BadLine::NoCall => b"no call that is known",
+        BadLine::NoCall => b"it begins with no call that is known",
         BadLine::MissingWord => b"a word is missing",
         BadLine::NotHex => b"a word is neither hexadecimal digits, -, nor text in double quotes",
         BadLine::OddDigits => b"a word has an odd number of hexadecimal digits",
@@ -211,7 +211,7 @@ fn report_bad(
     ensures came { λ r. ⌜ Came-to Came.NoCall r ⌝ }
 {
     put_heading(heap, number, out)?;
-    put(out, b"no call, ")?;
+    put(out, b"bad line, ")?;
     put(out, words_of_bad(bad))?;
     put(out, b"\n")?;
     Ok(Came::NoCall)
@@ -249,6 +249,6 @@ pub fn report_counts(heap: Global, counts: Counts, out: &mut Vec<u8>) -> Result<
     let taken = counts.taken;
     let refused = counts.refused;
     let bad = counts.bad;
-    let text = format!(heap, "{taken} taken, {refused} refused, {bad} no calls\n")?;
+    let text = format!(heap, "{taken} taken, {refused} refused, {bad} bad lines\n")?;
     put(out, text.as_bytes())
 }
