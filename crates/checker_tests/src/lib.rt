@@ -12,7 +12,9 @@ mod tests {
     use std::test::*;
 
     const TOO_DEEP: u8 = 4;
+
     const MALFORMED: u8 = 2;
+
     const BAD_SOURCE: u8 = 1;
 
     // The innermost of 15 ifs stands behind 14 others of 14 bytes each.
