@@ -64,7 +64,7 @@ module _ (source : List ℕ) (short : length source ≤ most-bytes) (at : ℕ) w
   expr-head-reads (Filter name whole receiver args) u fits =
       rw (append-assoc, append-assoc, callee-reads 7 (count-args args) name whole _ (fits .2) (omega arith) (fits .0) (fits .1))
 
-  stmt-head-reads : (s : Stmt) (u : List ℕ) → Stmt-fits source s → scope-head at (pack-stmt s ++ u) ≡ read (StmtOf (stmt-head-of s)) (stmt-behind s ++ u)
+  pub stmt-head-reads : (s : Stmt) (u : List ℕ) → Stmt-fits source s → scope-head at (pack-stmt s ++ u) ≡ read (StmtOf (stmt-head-of s)) (stmt-behind s ++ u)
   unfolding scope-head scope-fields stmt-fields command byte coded pack-stmt
   stmt-head-reads (Raw s) u fits = rw (placed-span s u fits)
   stmt-head-reads (Inline e) u fits = refl

@@ -1,0 +1,9 @@
+pub mod Writes
+pub mod Fewer
+pub mod Means
+pub mod Operands
+pub mod Rows
+pub mod Arms
+pub mod Emits
+pub mod StmtArms
+pub mod Wholes

@@ -1,0 +1,4 @@
+pub mod Writing
+pub mod Records
+pub mod Compiled
+pub mod Answers
