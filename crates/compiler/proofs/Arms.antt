@@ -3,16 +3,16 @@ use Prim.Native.Nat.{ℕ, suc, _+_, _≤_, _<_}
 use mathlib.Core.Path.{_≡_, refl, sym, ap, subst, _∙_}
 use mathlib.Core.Bool.{true, false}
 use mathlib.Core.Option.{some}
-use mathlib.Core.List.{List, [], _∷_, _++_}
+use mathlib.Core.List.{List, [], _∷_}
 use native.Mathlib.Omega.{arith}
 use lib.ListN.{length, set, length-append}
 use Rattle.std.specs.declared.option.Option.the-variants.{Some}
 use Rattle.meaning.specs.declared.tree.Span.{Span}
 use Rattle.meaning.specs.declared.tree.Member.{Member}
-use Rattle.meaning.specs.Tree.{String, Expr, BaseExpr, Args, Base, Filter, Variable, Literal, ListOf, MapOf, Paren, Call, no-pairs, pair, count-args}
+use Rattle.meaning.specs.Tree.{String, Expr, BaseExpr, Args, Base, Filter, no-pairs, pair, count-args}
 use Rattle.packing.specs.Limits.{most-bytes, Base-fits, Expr-fits}
 use Rattle.packing.specs.Packing.{pack-expr, pack-base, pack-args, pack-pairs, pack-value}
-use Rattle.program.specs.Program.{compile-expr, compile-base, compile-args, compile-items, compile-pairs, Apply, ExprStartVar, ExprStartLiteral, ExprStartList, ExprStartMap, ExprMapInsert}
+use Rattle.program.specs.Program.{compile-expr, compile-base, compile-args, Apply, ExprStartVar, ExprStartLiteral, ExprStartList, ExprStartMap, ExprMapInsert}
 use Rattle.program.specs.Program as program
 use Rattle.reader.specs.declared.command.BaseCommand.{BaseCommand}
 use Rattle.reader.specs.declared.command.ExprCommand.{ExprCommand}

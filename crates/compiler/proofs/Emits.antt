@@ -1,12 +1,11 @@
 -- How an expression that is compiled is emitted.
-use Prim.Native.Nat.{ℕ, suc, _+_, _-_, _<_}
+use Prim.Native.Nat.{ℕ, suc, _+_, _-_}
 use mathlib.Core.Path.{_≡_, refl, sym, ap, subst, _∙_}
 use mathlib.Core.Bool.{true, false}
 use mathlib.Core.Option.{Option, none, some}
 use mathlib.Core.List.{List, [], _∷_, _++_, append-assoc}
-use native.Mathlib.Omega.{arith}
 use borrow.Author.Tests.{clash}
-use lib.ListN.{length, drop, length-append}
+use lib.ListN.{drop}
 use Rattle.meaning.specs.Or.{fails, gives}
 use Rattle.meaning.specs.declared.tree.Span.{Span}
 use Rattle.meaning.specs.Tree.{LoopVars, Expr, BaseExpr, Base, Filter, Variable, Literal, ListOf, MapOf, Paren, Call, count-args}

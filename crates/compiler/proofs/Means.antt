@@ -1,7 +1,7 @@
 -- Records and what they mean, one part after another.
 use Prim.Native.Nat.{ℕ, suc, _+_}
-use mathlib.Core.Path.{_≡_, refl, sym, ap, subst, _∙_}
-use mathlib.Core.Option.{Option, none, some}
+use mathlib.Core.Path.{_≡_, refl, ap, _∙_}
+use mathlib.Core.Option.{some}
 use mathlib.Core.List.{List, [], _∷_, _++_}
 use lib.ListN.{length, set, drop}
 use Rattle.packing.specs.Reader.{Outcome, read}
@@ -11,7 +11,6 @@ use Rattle.checker.proofs.There.{second-part}
 use Rattle.compiler.specs.declared.instr.Instr.{Instr}
 use Rattle.compiler.specs.Records.{instr-of, operand, Mean}
 use Rattle.compiler.specs.Compiled.{Made}
-use Rattle.compiler.specs.Writing.{Wrote}
 use Rattle.compiler.proofs.Writes.{wrote-none, wrote-one, wrote-on}
 
 pub mean-append : (tree : List ℕ) (a b : List Instr) (x y : List program.Instr) → Mean tree a x → Mean tree b y → Mean tree (a ++ b) (x ++ y)

@@ -2,18 +2,18 @@
 use Prim.Native.Nat.{ℕ, suc, _+_, _≤_}
 use mathlib.Core.Path.{_≡_, refl, sym, ap, subst, _∙_}
 use mathlib.Core.Option.{some}
-use mathlib.Core.List.{List, [], _∷_, _++_, append-assoc}
+use mathlib.Core.List.{List, _∷_, _++_, append-assoc}
 use native.Mathlib.Omega.{arith}
-use lib.ListN.{length, drop}
+use lib.ListN.{length}
 use Rattle.meaning.specs.Bytes.{little-endian}
 use Rattle.meaning.specs.Value.{Value}
 use Rattle.meaning.specs.declared.tree.Span.{Span}
-use Rattle.meaning.specs.Tree.{String, Var, Expr, BaseExpr, Args, Pairs, Filter, Variable, Literal, ListOf, MapOf, Call, pair, count-args, count-pairs, members}
+use Rattle.meaning.specs.Tree.{String, Var, Expr, BaseExpr, Args, Pairs, Filter, Variable, Literal, ListOf, MapOf, Call, pair, count-args, members}
 use Rattle.packing.specs.Limits.{most-bytes, Inside, Simple, Value-fits, String-fits, Base-fits, Expr-fits}
-use Rattle.packing.specs.Packing.{pack-span, pack-string, pack-text, pack-value, pack-expr, pack-base, pack-args, pack-pairs, pack-members}
+use Rattle.packing.specs.Packing.{pack-span, pack-string, pack-value, pack-expr, pack-base, pack-members}
 use Rattle.packing.specs.Unpacking.{span, string-of, variable}
 use Rattle.packing.specs.Reader.{read}
-use Rattle.packing.proofs.Fields.{span-reads, string-reads, inside-short, variable-reads}
+use Rattle.packing.proofs.Fields.{span-reads, inside-short, variable-reads}
 use Rattle.packing.proofs.Exprs.{ranged-members, short-members}
 use Rattle.program.specs.Program as program
 use Rattle.checker.specs.There.{Stands}

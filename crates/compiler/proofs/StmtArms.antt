@@ -1,22 +1,21 @@
 -- The arms of the compiler's functions over statements.
-use Prim.Native.Nat.{ℕ, suc, _+_, _≤_, _<_}
+use Prim.Native.Nat.{ℕ, _+_, _≤_, _<_}
 use mathlib.Core.Path.{_≡_, refl, sym, ap, subst, _∙_}
 use mathlib.Core.Bool.{Bool, true, false}
 use mathlib.Core.Option.{some}
 use mathlib.Core.List.{List, [], _∷_, _++_, append-nil, append-assoc}
 use native.Mathlib.Omega.{arith}
-use lib.ListN.{length, drop, set, length-append}
+use lib.ListN.{length, set, length-append}
 use Rattle.meaning.specs.Bytes.{little-endian}
 use Rattle.meaning.specs.declared.tree.Span.{Span}
 use Rattle.meaning.specs.Spans.{expr-span}
-use Rattle.meaning.specs.Tree.{String, LoopVars, Item, KeyValue, Expr, BaseExpr, Base, Filter, Variable, Literal, ListOf, MapOf, Paren, Call, no-pairs, pair, Stmt, Scope, Raw, Inline, Include as IncludeStmt, IncludeWith as IncludeWithStmt, If, IfElse, For, With, done, _then_}
-use Rattle.packing.specs.Limits.{most-bytes, Expr-fits, Stmt-fits, Scope-fits}
+use Rattle.meaning.specs.Tree.{String, LoopVars, Item, KeyValue, Expr, Base, Filter, Variable, Literal, ListOf, MapOf, Paren, Call, no-pairs, pair, Stmt, Scope, Raw, Inline, Include as IncludeStmt, IncludeWith as IncludeWithStmt, If, IfElse, For, With, done, _then_}
+use Rattle.packing.specs.Limits.{most-bytes, Stmt-fits}
 use Rattle.packing.specs.Packing.{pack-span, pack-string, pack-text, pack-expr, pack, pack-stmt}
-use Rattle.packing.specs.Unpacking.{span, string-of}
 use Rattle.program.specs.Program.{compile-expr, emit-expr, compile-stmt, compile-scope, stmt-count, count, expr-count, jump-past}
 use Rattle.program.specs.Program as program
 use Rattle.program.proofs.Laws.{count-is-length}
-use Rattle.reader.specs.Heads.{StmtHead, RawHead, InlineHead, IncludeHead, IncludeWithHead, IfHead, IfElseHead, ForItemHead, ForPairHead, WithHead, expr-head, scope-head}
+use Rattle.reader.specs.Heads.{StmtHead, RawHead, InlineHead, IncludeHead, IncludeWithHead, IfHead, IfElseHead, ForItemHead, ForPairHead, WithHead}
 use Rattle.checker.specs.There.{Stands, ExprThere, ScopeThere}
 use Rattle.checker.specs.TreeHeads.{expr-head-of, stmt-head-of, stmt-behind, scope-behind}
 use Rattle.checker.proofs.There.{first-part, second-part, three-stand}
@@ -25,14 +24,14 @@ use Rattle.checker.proofs.TreeHeads.{expr-head-reads, stmt-head-reads}
 use Rattle.compiler.specs.declared.instr.Instr.{Instr}
 use Rattle.compiler.specs.declared.instr.Op.{Op}
 use Rattle.compiler.specs.declared.compile.Compiler.{Compiler}
-use Rattle.compiler.specs.Records.{instr-of, operand, head-span}
+use Rattle.compiler.specs.Records.{instr-of, head-span}
 use Rattle.compiler.specs.Compiled.{Made, Over, StmtOver, LoopOver, ExprMade, EmitMade, StmtMade, ScopeMade, LoopMade, applies, plain-record, jump-record, past-op, moved-to}
 use Rattle.compiler.specs.Writing.{Wrote, aimed, patched}
 use Rattle.compiler.proofs.Arms.{moved-one, push-one}
 use Rattle.compiler.proofs.Emits.{applied-expr, plain-expr}
 use Rattle.compiler.proofs.Fewer.{expr-fewer}
 use Rattle.compiler.proofs.Means.{made-counts, made-on, made-end, made-at, behind-byte}
-use Rattle.compiler.proofs.Operands.{span-means, string-means, span-size}
+use Rattle.compiler.proofs.Operands.{span-means, string-means}
 use Rattle.compiler.proofs.Writes.{wrote-one, wrote-on, wrote-changed}
 
 -- FEWER INSTRUCTIONS THAN BYTES

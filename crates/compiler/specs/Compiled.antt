@@ -11,7 +11,7 @@ use Rattle.packing.specs.Packing.{pack-expr, pack-base, pack-args, pack-pairs, 
 use Rattle.program.specs.Program.{emit-expr, compile-expr, compile-base, compile-args, compile-items, compile-pairs, compile-stmt, compile-scope}
 use Rattle.program.specs.Program as program
 use Rattle.reader.specs.Heads.{BaseHead, StmtHead}
-use Rattle.checker.specs.There.{Stands, ExprThere, BaseThere, ArgsThere, PairsThere, ScopeThere, NestedThere}
+use Rattle.checker.specs.There.{Stands, ExprThere, BaseThere, ArgsThere, PairsThere, ScopeThere}
 use Rattle.checker.specs.TreeHeads.{base-head-of, base-behind, stmt-head-of, stmt-behind}
 use Rattle.compiler.specs.declared.instr.Instr.{Instr}
 use Rattle.compiler.specs.declared.instr.Op.{Op}

@@ -1,21 +1,19 @@
 -- What a record means: its operands are read where they stand in the tree.
-use Prim.Native.Nat.{ℕ, _+_}
+use Prim.Native.Nat.{ℕ}
 use mathlib.Core.Path.{_≡_}
-use mathlib.Core.Bool.{Bool, true, false}
 use mathlib.Core.List.{List, [], _∷_}
 use mathlib.Core.Option.{Option, none, some}
 use lib.ListN.{drop}
 use Rattle.meaning.specs.Or.{fails, gives}
-use Rattle.meaning.specs.Value.{Value}
 use Rattle.meaning.specs.declared.tree.Member.{Member}
 use Rattle.meaning.specs.declared.tree.Span.{Span}
-use Rattle.meaning.specs.Tree.{LoopVars, Item, KeyValue, Var}
+use Rattle.meaning.specs.Tree.{LoopVars, Item, KeyValue}
 use Rattle.meaning.specs.Spans.{combine, last-member}
 use Rattle.packing.specs.Reader.{Outcome}
 use Rattle.packing.specs.Unpacking.{span, string-of, variable}
 use Rattle.program.specs.Program as program
 use Rattle.reader.specs.AfterByte.{plain-head}
-use Rattle.reader.specs.Heads.{BaseHead, VariableHead, LiteralHead, ListHead, EmptyMapHead, MapHead, ParenHead, CallHead, ExprHead, BaseOf, FilterHead, StmtHead, RawHead, InlineHead, IncludeHead, IncludeWithHead, IfHead, IfElseHead, ForItemHead, ForPairHead, WithHead, ScopeHead, StmtOf, EndHead, expr-head, scope-head}
+use Rattle.reader.specs.Heads.{VariableHead, LiteralHead, ListHead, EmptyMapHead, MapHead, ParenHead, CallHead, ExprHead, BaseOf, FilterHead, RawHead, InlineHead, IncludeHead, IncludeWithHead, IfHead, IfElseHead, ForItemHead, ForPairHead, WithHead, ScopeHead, StmtOf, EndHead, expr-head, scope-head}
 use Rattle.compiler.specs.declared.instr.Instr.{Instr}
 use Rattle.compiler.specs.declared.instr.Op.{Op}
 

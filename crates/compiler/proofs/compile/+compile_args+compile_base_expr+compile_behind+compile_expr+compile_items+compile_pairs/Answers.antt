@@ -1,23 +1,21 @@
-use Prim.Native.Nat.{ℕ, suc, _+_, _-_, _≤_}
+use Prim.Native.Nat.{suc, _+_, _-_, _≤_}
 use mathlib.Core.Path.{_≡_, refl, sym, ap, subst, _∙_}
-use mathlib.Core.Bool.{false}
 use native.Mathlib.Omega.{arith}
 use lib.ListN.{length}
-use Rattle.meaning.specs.Tree.{arg}
-use Rattle.packing.specs.Packing.{pack-expr, pack-base, pack-args, pack-pairs, pack-string}
+use Rattle.packing.specs.Packing.{pack-base, pack-args, pack-pairs, pack-string}
 use Rattle.reader.specs.Heads.{BaseHead}
 use Rattle.reader.specs.Fields.{members-of, text-of}
 use Rattle.reader.specs.Meanings.{base-of, expr-of}
-use Rattle.checker.specs.There.{Stands, BaseThere, ArgsThere, PairsThere}
+use Rattle.checker.specs.There.{Stands, BaseThere}
 use Rattle.checker.proofs.Walking.{expr-known, base-known, value-known, value-headed, string-known, string-headed, args-parts, pairs-parts}
 use Rattle.program.specs.Program.{compile-base, compile-args, compile-items, compile-pairs, ExprListPush, ExprMapInsert}
 use Rattle.compiler.specs.declared.instr.Op.{Op}
 use Rattle.compiler.specs.declared.compile.Compiler.{Compiler}
-use Rattle.compiler.specs.Compiled.{Over, BehindMade, moved-to, plain-record}
-use Rattle.compiler.proofs.Means.{made-end, made-on}
+use Rattle.compiler.specs.Compiled.{Over, BehindMade, plain-record}
+use Rattle.compiler.proofs.Means.{made-on}
 use Rattle.compiler.proofs.Arms.{expr-room, base-room, args-room, moved-one, base-step, filter-step, base-over, base-arm, base-expr-arm, filter-arm, receiver-over, args-over, Headed-over, literal-over, list-over, value-over, pairs-over, paren-over, call-over, variable-arm, literal-arm, list-arm, empty-map-arm, paren-arm, call-arm, map-arm}
 use Rattle.compiler.proofs.Operands.{string-means}
-use Rattle.compiler.proofs.Rows.{ArgsLeft, PairsLeft, item-code, pair-code, args-law, items-law, args-none, items-none, args-more, args-all, pairs-more, pairs-all, code-start}
+use Rattle.compiler.proofs.Rows.{item-code, args-law, items-law, args-none, items-none, args-more, args-all, pairs-more, pairs-all, code-start}
 use Rattle.compiler.proofs.compile.+compile_args+compile_base_expr+compile_behind+compile_expr+compile_items+compile_pairs.Needs as need
 
 pub compile-args-loop-arg-holds : need.compile-args-loop-arg-holds

@@ -1,8 +1,8 @@
-use Prim.Native.Nat.{ℕ, suc, _+_, _-_, _^_, _≤_, _<_}
-use mathlib.Core.Path.{_≡_, refl, sym, ap, subst, _∙_}
+use Prim.Native.Nat.{_+_, _-_, _^_, _≤_, _<_}
+use mathlib.Core.Path.{_≡_, sym, ap, subst, _∙_}
 use native.Mathlib.Omega.{arith}
 use lib.ListN.{length}
-use Rattle.packing.specs.Packing.{pack-expr, pack, pack-stmt}
+use Rattle.packing.specs.Packing.{pack}
 use Rattle.reader.specs.Heads.{StmtHead, StmtOf, EndHead}
 use Rattle.reader.specs.Fields.{text-of}
 use Rattle.reader.specs.Meanings.{stmt-of, scope-of}
@@ -12,7 +12,7 @@ use Rattle.checker.proofs.Walking.{scope-known, scope-headed}
 use Rattle.program.specs.Program.{compile-scope}
 use Rattle.compiler.specs.declared.instr.Op.{Op}
 use Rattle.compiler.specs.declared.compile.Compiler.{Compiler}
-use Rattle.compiler.specs.Compiled.{Over, Made, StmtMade, jump-record}
+use Rattle.compiler.specs.Compiled.{Made, StmtMade, jump-record}
 use Rattle.compiler.proofs.Rows.{CodeLeft, code-start, scope-more, scope-all}
 use Rattle.compiler.proofs.StmtArms.{block-room, scope-room, stmt-room, stmt-over, Stmt-over, inline-expr, include-expr, if-expr, if-scope, choice-expr, choice-scope, else-scope, with-expr, with-scope, loop-expr, loop-scope, item-loop, pair-loop, raw-arm, include-arm, inline-arm, include-with-arm, if-arm, if-else-arm, with-arm, loop-arm, item-arm, pair-arm}
 use Rattle.compiler.proofs.compile.+compile_loop+compile_scope+compile_stmt.Needs as need

@@ -1,7 +1,6 @@
-use Prim.Native.Nat.{ℕ, _+_, _-_, _≤_}
+use Prim.Native.Nat.{_-_}
 use mathlib.Core.Path.{_≡_, refl, sym, ap, subst, _∙_}
-use mathlib.Core.Bool.{true, false}
-use mathlib.Core.List.{List, [], _∷_, _++_}
+use mathlib.Core.List.{List}
 use Rattle.program.specs.Program.{Emit, emit-expr}
 use Rattle.program.specs.Program as program
 use Rattle.compiler.specs.declared.instr.Instr.{Instr}
@@ -10,7 +9,7 @@ use Rattle.compiler.specs.declared.compile.Compiler.{Compiler}
 use Rattle.compiler.specs.Compiled.{Made, plain-record}
 use Rattle.compiler.specs.Writing.{retagged}
 use Rattle.compiler.proofs.Arms.{moved-one}
-use Rattle.compiler.proofs.Means.{made-on, made-end}
+use Rattle.compiler.proofs.Means.{made-on}
 use Rattle.compiler.proofs.Emits.{applied-expr, plain-expr, made-emitted}
 use Rattle.compiler.proofs.compile.pop_emit_expr.Needs as need
 

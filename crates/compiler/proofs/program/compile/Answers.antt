@@ -1,16 +1,15 @@
-use Prim.Native.Nat.{ℕ, _≤_, _<_}
-use mathlib.Core.Path.{_≡_, refl, sym, ap, subst, _∙_}
+use Prim.Native.Nat.{ℕ, _≤_}
+use mathlib.Core.Path.{_≡_, refl, ap, subst, _∙_}
 use mathlib.Core.List.{List}
 use native.Mathlib.Omega.{arith}
 use lib.ListN.{length}
 use Rattle.meaning.specs.Fault.{fault}
 use Rattle.meaning.specs.Or.{gives}
 use Rattle.meaning.specs.declared.fault.Cause.the-variants.{TooManyInstructions}
-use Rattle.meaning.specs.Tree.{Scope}
 use Rattle.packing.specs.Unpacking.{unpack}
 use Rattle.program.specs.Program as program
-use Rattle.checker.specs.Templates.{source-of, tree-of}
-use Rattle.compiler.specs.Answers.{Holds, most-instructions}
+use Rattle.checker.specs.Templates.{source-of}
+use Rattle.compiler.specs.Answers.{Holds}
 use Rattle.compiler.proofs.Wholes.{whole-over, whole-room, whole-counts, whole-holds}
 use Rattle.compiler.proofs.program.compile.Needs as need
 

@@ -1,6 +1,6 @@
 use mathlib.Core.Path.{sym}
 use native.Mathlib.Omega.{arith}
-use Rattle.compiler.specs.Writing.{aimed, emitting}
+use Rattle.compiler.specs.Writing.{emitting}
 use Rattle.compiler.proofs.Writes.{changed-is-set, changed-past}
 use Rattle.compiler.proofs.writing.emit_applied.Needs as need
 
