@@ -3,7 +3,7 @@ use Rattle.std.proofs.Common.{◌≡◌, ℕ, ◌+◌, List, ◌++◌, length, r
 use Rattle.meaning.specs.Value.{Value}
 use Rattle.meaning.specs.Tree.{Var, Expr, BaseExpr, Args, Pairs, Stmt, Scope, Base, Filter, Variable, Literal, ListOf, MapOf, Paren, Call, no_pairs, pair, count_args, count_pairs, members, Item, KeyValue, Raw, Inline, Include, IncludeWith, If, IfElse, For, With, done, ◌then◌}
 use Rattle.packing.specs.Limits.{Inside, Simple, ValueFits, StringFits, MembersFit, ExprFits, BaseFits, ArgsFit, PairsFit, StmtFits, ScopeFits}
-use Rattle.packing.specs.Packing.{pack_value, pack_string, pack_expr, pack_base, pack_args, pack_pairs, pack, pack_stmt}
+use Rattle.packing.specs.Packing.{pack_value, pack_expr, pack_base, pack_args, pack_pairs, pack}
 use Rattle.reader.specs.Heads.{BaseHead, VariableHead, LiteralHead, ListHead, EmptyMapHead, MapHead, ParenHead, CallHead, ExprHead, BaseOf, FilterHead, StmtHead, RawHead, InlineHead, IncludeHead, IncludeWithHead, IfHead, IfElseHead, ForItemHead, ForPairHead, WithHead, ScopeHead, StmtOf, EndHead}
 use Rattle.checker.specs.There.{Stands}
 use Rattle.checker.specs.TreeHeads.{base_head_of, base_behind, expr_head_of, expr_behind, stmt_head_of, stmt_behind, scope_head_of, scope_behind}

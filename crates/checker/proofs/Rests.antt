@@ -1,7 +1,7 @@
 -- That a command is its head and then the rest: reading it is reading the one and passing over the other.
 use Rattle.std.proofs.Common.{◌≡◌, ℕ, zero, suc, ◌-◌, ◌≤◌, Bool, true, false, leb, List, [], ◌∷◌, length, drop, Ok, Err, Result, sym, refl, ap, ◌∙◌, subst, arith, length-drop}
 use Rattle.meaning.specs.declared.tree.Span.{Span}
-use Rattle.meaning.specs.Tree.{String, Var, Expr, BaseExpr, Scope, Base, Literal, ListOf, MapOf, Paren, Call, Filter, Variable, pair, Pairs, arg}
+use Rattle.meaning.specs.Tree.{String, Expr, BaseExpr, Base, Literal, ListOf, MapOf, Paren, Call, Filter, pair, arg}
 use Rattle.meaning.specs.Tree.{members}
 use Rattle.packing.specs.Limits.{inside}
 use Rattle.packing.specs.Reader.{Outcome, read, refused, Reader, ensure, byte, command}
@@ -9,11 +9,11 @@ use Rattle.meaning.specs.Step.{return, continue, ◌>>=◌, ◌>>◌}
 use Rattle.meaning.specs.declared.fault.Cause.{Cause}
 use Rattle.meaning.specs.Or.{gives, fails}
 use Rattle.meaning.specs.declared.fault.Cause.TheVariants.{Malformed, Misplaced, TooDeep}
-use Rattle.packing.specs.Unpacking.{all_inside, nothing_below, expr_within, base_within, placed, span, string_of, variable, literal_value, args, pairs, base_of, expr_of, a_base, an_expr}
+use Rattle.packing.specs.Unpacking.{nothing_below, expr_within, base_within, placed, span, string_of, variable, literal_value, args, pairs, base_of, expr_of, a_base, an_expr}
 use Rattle.packing.specs.Commands.{BaseByte, variable_byte, literal_byte, list_of_byte, map_of_byte, paren_byte, call_byte, ExprByte, of_base, filter_byte, base_code, base_bytes, expr_code, expr_bytes}
 use Rattle.reader.specs.Fields.{ended, variable_members}
 use Rattle.reader.specs.Heads.{BaseHead, VariableHead, LiteralHead, ListHead, EmptyMapHead, MapHead, ParenHead, CallHead, ExprHead, BaseOf, FilterHead, base_fields, map_fields, map_head, Callee, callee, base_spans, expr_spans, base_head, expr_head, expr_fields}
-use Rattle.checker.specs.Rests.{passing, base_rest, expr_rest}
+use Rattle.checker.specs.Rests.{base_rest, expr_rest}
 use Rattle.meaning.specs.Value.{Value}
 use Rattle.reader.specs.declared.refusal.Refusal.{Refusal}
 use Rattle.reader.specs.declared.command.ExprCommand.{ExprCommand}

@@ -1,17 +1,16 @@
 -- That a statement is its head and then the rest, and a scope its statements one after another.
-use Rattle.std.proofs.Common.{◌≡◌, ℕ, zero, suc, ◌-◌, ◌≤◌, Bool, true, false, List, [], ◌∷◌, length, drop, sym, refl, ap, ◌∙◌, subst, arith, length-drop}
-use Rattle.meaning.specs.declared.tree.Span.{Span}
-use Rattle.meaning.specs.Tree.{Expr, Stmt, Scope, Raw, Inline, Include, IncludeWith, If, IfElse, For, Item, KeyValue, With, done, ◌then◌}
+use Rattle.std.proofs.Common.{◌≡◌, ℕ, suc, ◌-◌, ◌≤◌, Bool, List, [], ◌∷◌, length, drop, sym, refl, ap, ◌∙◌, subst, arith, length-drop}
+use Rattle.meaning.specs.Tree.{Expr, Stmt, Scope, Inline, IncludeWith, If, IfElse, For, Item, KeyValue, With, ◌then◌}
 use Rattle.packing.specs.Reader.{Outcome, read, refused, Reader, ensure, flag, command}
 use Rattle.meaning.specs.Step.{return, continue, ◌>>=◌, ◌>>◌}
 use Rattle.meaning.specs.declared.fault.Cause.{Cause}
 use Rattle.meaning.specs.Or.{gives, fails}
-use Rattle.meaning.specs.declared.fault.Cause.TheVariants.{Malformed, Misplaced, TooDeep}
+use Rattle.meaning.specs.declared.fault.Cause.TheVariants.{TooDeep}
 use Rattle.packing.specs.Unpacking.{placed, span, string_of, whole_expr, stmt_of, scope_of, statements, scope_within, room_at, block_at}
 use Rattle.packing.specs.Commands.{StmtByte, raw_byte, inline_byte, include_byte, include_with_byte, if_byte, if_else_byte, for_item_byte, for_pair_byte, with_byte, ScopeByte, stmt, end_byte, scope_code, scope_bytes}
 use Rattle.packing.proofs.Scopes.{bound_is_enough}
 use Rattle.reader.specs.Fields.{ended}
-use Rattle.reader.specs.Heads.{StmtHead, RawHead, InlineHead, IncludeHead, IncludeWithHead, IfHead, IfElseHead, ForItemHead, ForPairHead, WithHead, ScopeHead, StmtOf, EndHead, stmt_fields, scope_fields, scope_head, stmt_spans, scope_spans}
+use Rattle.reader.specs.Heads.{StmtHead, ScopeHead, StmtOf, EndHead, stmt_fields, scope_fields, scope_head, stmt_spans, scope_spans}
 use Rattle.checker.specs.Rests.{passing, stmt_rest}
 use Rattle.reader.specs.declared.command.ScopeCommand.{ScopeCommand}
 use Rattle.reader.specs.Meanings.{scope_of as command_means}

@@ -1,5 +1,5 @@
 -- From a part that stands at a position to the parts within it.
-use Rattle.std.proofs.Common.{◌≡◌, ℕ, ◌+◌, ◌-◌, ◌≤◌, List, [], ◌++◌, length, drop, Some, None, sym, refl, ap, ◌∙◌, subst, append_assoc, add_assoc, arith, length-append, length-drop, drop-drop}
+use Rattle.std.proofs.Common.{◌≡◌, ℕ, ◌+◌, ◌-◌, ◌≤◌, List, ◌++◌, length, drop, Some, None, sym, refl, ap, ◌∙◌, subst, append_assoc, arith, length-append, length-drop, drop-drop}
 use Rattle.std.proofs.lemmas.List.{drop_at}
 use Rattle.packing.specs.Reader.{Reader, read}
 use Rattle.packing.proofs.Readers.{finish, never_read}

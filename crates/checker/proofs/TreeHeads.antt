@@ -1,20 +1,20 @@
 -- That the reader, where a part of a tree stands packed, reads its head and leaves what stands behind it.
-use Rattle.std.proofs.Common.{◌≡◌, ℕ, suc, ◌<◌, ◌≤◌, Bool, true, false, List, [], ◌∷◌, ◌++◌, length, sym, refl, ap, ◌∙◌, append_assoc, arith, le-leb}
+use Rattle.std.proofs.Common.{◌≡◌, ℕ, suc, ◌<◌, ◌≤◌, List, ◌∷◌, ◌++◌, length, refl, ◌∙◌, append_assoc, arith, le-leb}
 use Rattle.meaning.specs.Value.{Value}
 use Rattle.meaning.specs.declared.tree.Span.{Span}
-use Rattle.meaning.specs.Tree.{String, Expr, BaseExpr, Stmt, Scope, Base, Filter, Variable, Literal, ListOf, MapOf, Paren, Call, Args, no_pairs, pair, count_args, count_pairs, members, Item, KeyValue, Raw, Inline, Include, IncludeWith, If, IfElse, For, With, done, ◌then◌}
-use Rattle.packing.specs.Packing.{flag_byte, pack_span, pack_string, pack_value, pack_members, pack_expr, pack_base, pack_args, pack_pairs, pack, pack_stmt}
-use Rattle.packing.specs.Limits.{Inside, Simple, ValueFits, StringFits, BaseFits, ExprFits, StmtFits, ScopeFits, VarsFit, most_bytes}
+use Rattle.meaning.specs.Tree.{String, Expr, BaseExpr, Stmt, Scope, Base, Filter, Variable, Literal, ListOf, MapOf, Paren, Call, no_pairs, pair, count_args, count_pairs, members, Item, KeyValue, Raw, Inline, Include, IncludeWith, If, IfElse, For, With, done, ◌then◌}
+use Rattle.packing.specs.Packing.{pack_span, pack_string, pack_value, pack_expr, pack_base, pack_pairs, pack, pack_stmt}
+use Rattle.packing.specs.Limits.{Inside, Simple, ValueFits, StringFits, BaseFits, ExprFits, StmtFits, ScopeFits, most_bytes}
 use Rattle.meaning.specs.Step.{return, continue}
-use Rattle.packing.specs.Reader.{read, byte, coded, command, flag}
-use Rattle.packing.specs.Unpacking.{span, string_of, variable}
+use Rattle.packing.specs.Reader.{read, byte, coded, command}
+use Rattle.packing.specs.Unpacking.{span, string_of}
 use Rattle.packing.proofs.Values.{plain_command_reads}
 use Rattle.packing.proofs.Readers.{byte_reads, flag_reads}
-use Rattle.packing.proofs.Fields.{Short, span_reads, string_reads, inside_short, variable_reads}
+use Rattle.packing.proofs.Fields.{span_reads, string_reads, inside_short, variable_reads}
 use Rattle.packing.proofs.Exprs.{ranged_members, short_members}
 use Rattle.reader.specs.AfterByte.{plain_head}
 use Rattle.reader.specs.Fields.{variable_members}
-use Rattle.reader.specs.Heads.{BaseOf, StmtOf, base_head, expr_head, scope_head, base_fields, expr_fields, stmt_fields, scope_fields, map_fields, map_head, callee, Callee}
+use Rattle.reader.specs.Heads.{BaseOf, StmtOf, base_head, expr_head, scope_head, base_fields, expr_fields, stmt_fields, scope_fields, map_fields, callee}
 use Rattle.checker.specs.TreeHeads.{base_head_of, base_behind, expr_head_of, expr_behind, stmt_head_of, stmt_behind, scope_head_of, scope_behind}
 
 module _ (source : List ℕ) (short : length source ≤ most_bytes) (at : ℕ) where

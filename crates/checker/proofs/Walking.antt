@@ -1,5 +1,5 @@
 -- What the reader hands out where a part of a tree stands.
-use Rattle.std.proofs.Common.{◌≡◌, ℕ, suc, ◌+◌, ◌≤◌, List, [], ◌++◌, length, Some, None, refl, subst, arith}
+use Rattle.std.proofs.Common.{◌≡◌, ℕ, suc, ◌+◌, ◌≤◌, List, [], ◌++◌, length, Some, None, refl, arith}
 use Rattle.meaning.specs.Tree.{BaseExpr, String, Args, Pairs, no_args, arg, no_pairs, pair, count_args, count_pairs}
 use Rattle.packing.specs.Limits.{most_bytes, StringFits, BaseFits, ArgsFit, PairsFit}
 use Rattle.packing.specs.Packing.{pack_value, pack_string, pack_expr, pack_base, pack_args, pack_pairs, pack}

@@ -4,12 +4,12 @@ use borrow.Author.Tests.{clash}
 use Rattle.meaning.specs.Or.{Or, fails, gives}
 use Rattle.meaning.specs.Fault.{Fault}
 use Rattle.meaning.specs.Tree.{Scope}
-use Rattle.packing.specs.Limits.{Limits, ScopeFits, most_bytes}
+use Rattle.packing.specs.Limits.{ScopeFits, most_bytes}
 use Rattle.packing.specs.Packing.{pack}
 use Rattle.packing.specs.Unpacking.{unpack}
 use Rattle.packing.proofs.RoundTrip.{unpacked_was_packed}
 use Rattle.checker.specs.Whole.{is_given, unpacks}
-use Rattle.checker.specs.There.{Stands, ScopeThere}
+use Rattle.checker.specs.There.{Stands}
 use Rattle.checker.proofs.There.{stands_before}
 
 -- bytes that unpack are some template's

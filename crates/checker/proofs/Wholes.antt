@@ -1,14 +1,14 @@
 -- What the check of a whole template comes to, once its steps are known.
-use Rattle.std.proofs.Common.{◌≡◌, ℕ, ◌+◌, ◌-◌, ◌<◌, ◌≤◌, Bool, true, false, ◌&&◌, leb, List, [], ◌∷◌, length, get_or, drop, sym, refl, ap, ◌∙◌, add-one, arith, length-drop, drop_of_length-le, drop-cons, le-leb}
+use Rattle.std.proofs.Common.{◌≡◌, ℕ, ◌+◌, ◌-◌, ◌<◌, ◌≤◌, true, false, List, [], ◌∷◌, length, get_or, drop, sym, ap, ◌∙◌, add-one, arith, length-drop, drop_of_length-le, drop-cons, le-leb}
 use borrow.Author.Tests.{lt-leb}
 use Rattle.meaning.specs.Tree.{Scope}
 use Rattle.packing.specs.Rfc3629.{well_formed}
 use Rattle.packing.specs.Limits.{most_bytes}
 use Rattle.packing.specs.Reader.{Outcome, read, refused}
 use Rattle.meaning.specs.declared.fault.Cause.{Cause}
-use Rattle.meaning.specs.Fault.{Fault, fault}
+use Rattle.meaning.specs.Fault.{fault}
 use Rattle.meaning.specs.declared.fault.Cause.TheVariants.{BadSource, Malformed}
-use Rattle.meaning.specs.Or.{Or, gives, fails}
+use Rattle.meaning.specs.Or.{gives, fails}
 use Rattle.packing.specs.Unpacking.{answer, unpack, scope_within}
 use Rattle.reader.specs.Fields.{ended}
 use Rattle.checker.specs.Whole.{verdict}

@@ -1,7 +1,7 @@
 -- What follows a head: its nesting is tested, then its children are passed over.
 use Rattle.std.specs.Prelude.{ℕ, Bool, List, []}
 use Rattle.meaning.specs.Tree.{Expr, BaseExpr, Pairs, Scope}
-use Rattle.packing.specs.Reader.{Outcome, Reader, ensure}
+use Rattle.packing.specs.Reader.{Reader, ensure}
 use Rattle.meaning.specs.Step.{return, ◌>>=◌, ◌>>◌}
 use Rattle.meaning.specs.declared.fault.Cause.TheVariants.{TooDeep}
 use Rattle.packing.specs.Unpacking.{literal_value, args, pairs, whole_expr}

@@ -1,5 +1,7 @@
 //! Tests of the checker on whole trees.
 
+#![tactic(auto)]
+
 #[cfg(test)]
 mod trees;
 

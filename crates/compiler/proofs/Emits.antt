@@ -1,5 +1,5 @@
 -- How an expression that is compiled is emitted.
-use Rattle.std.proofs.Common.{◌≡◌, ℕ, suc, ◌+◌, ◌-◌, true, false, List, [], ◌∷◌, ◌++◌, drop, sym, refl, ap, ◌∙◌, subst, append_assoc}
+use Rattle.std.proofs.Common.{◌≡◌, ℕ, suc, ◌-◌, true, false, List, [], ◌∷◌, ◌++◌, drop, sym, refl, ap, ◌∙◌, subst, append_assoc}
 use mathlib.Core.Option.{Option, none, some}
 use borrow.Author.Tests.{clash}
 use Rattle.meaning.specs.Or.{fails, gives}

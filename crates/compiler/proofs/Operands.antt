@@ -15,7 +15,6 @@ use Rattle.program.specs.Program as program
 use Rattle.checker.specs.There.{Stands}
 use Rattle.checker.proofs.There.{first_part, second_part}
 use Rattle.checker.proofs.TreeHeads.{placed_string, plain_head_reads}
-use Rattle.compiler.specs.declared.instr.Instr.{Instr}
 use Rattle.compiler.specs.declared.instr.Op.{Op}
 use Rattle.compiler.specs.Records.{instr_of, operand, callee_operands, literal_operands}
 use Rattle.compiler.specs.Compiled.{plain_record}

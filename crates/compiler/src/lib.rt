@@ -1,5 +1,7 @@
 //! The compiler: from a checked template to instructions in a lent slice.
 
+#![tactic(auto)]
+
 mod compile;
 pub mod instr;
 pub mod program;

@@ -1,5 +1,7 @@
 //! Tests of the compiler on whole trees.
 
+#![tactic(auto)]
+
 #[cfg(test)]
 mod trees;
 

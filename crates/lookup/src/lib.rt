@@ -1,5 +1,7 @@
 //! The walk of a path of members down into a value.
 
+#![tactic(auto)]
+
 pub mod fault;
 pub mod members;
 pub mod source;

@@ -1,5 +1,5 @@
 -- Names of templates, as code holds them.
-use Rattle.std.specs.Prelude.{◌≡◌, ℕ, ◌≤◌, Bool, true, false, ◌&&◌, length, take, Some, None, Option, nat_le}
+use Rattle.std.specs.Prelude.{◌≡◌, Bool, true, false, ◌&&◌, length, take, Some, None, Option, nat_le}
 use Rattle.meaning.specs.Value.{Text}
 use Rattle.meaning.specs.declared.name.Name.{Name}
 

@@ -1,5 +1,7 @@
 //! Reads a job on standard input, a call a line, and reports what was found.
 
+#![tactic(auto)]
+
 use job::line::content;
 use job::report::{Counts, report_counts, report_line};
 use std::io::{BufRead, BufReader, Write};

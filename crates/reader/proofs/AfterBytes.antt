@@ -1,17 +1,17 @@
 -- Which command a byte begins.
-use Rattle.std.proofs.Common.{◌≡◌, ℕ, suc, Bool, true, false, cond, eqb, List, [], ◌∷◌, ◌++◌, map, sym, refl, ap, ◌∙◌, ne_eqb}
-use Rattle.packing.specs.Reader.{Outcome, read, refused, coded, expect}
+use Rattle.std.proofs.Common.{◌≡◌, ℕ, suc, Bool, true, false, cond, eqb, List, [], ◌∷◌, ◌++◌, map, sym, refl, ne_eqb}
+use Rattle.packing.specs.Reader.{read, refused, coded, expect}
 use Rattle.meaning.specs.Step.{continue}
 use mathlib.Core.Option.{Option, some, none}
 use Rattle.meaning.specs.declared.fault.Cause.TheVariants.{Malformed}
 use Rattle.packing.specs.Commands.{base_code, base_bytes, expr_code, expr_bytes, of_base, filter_byte, stmt_code, scope_code, scope_bytes, stmt, end_byte}
 use Rattle.meaning.specs.declared.tree.Span.{Span}
 use Rattle.meaning.specs.Tree.{String}
-use Rattle.packing.specs.Reader.{Reader, byte, command}
+use Rattle.packing.specs.Reader.{byte, command}
 use Rattle.meaning.specs.Step.{return}
 use Rattle.packing.specs.Commands.{plain_code, plain_bytes, BaseByte, StmtByte}
-use Rattle.packing.specs.Unpacking.{plain_value, string_of}
-use Rattle.reader.specs.Heads.{BaseHead, MapHead, map_head, base_fields, base_head, ExprHead, BaseOf, FilterHead, expr_fields, expr_head, callee, StmtHead, stmt_fields, ScopeHead, StmtOf, EndHead, scope_fields, scope_head}
+use Rattle.packing.specs.Unpacking.{string_of}
+use Rattle.reader.specs.Heads.{MapHead, map_head, base_fields, base_head, BaseOf, FilterHead, expr_fields, expr_head, callee, stmt_fields, StmtOf, EndHead, scope_fields, scope_head}
 use Rattle.reader.specs.AfterByte.{base_after, stmt_after, stmt_bytes, plain_after, plain_head}
 
 -- the byte begins none of these commands

@@ -1,7 +1,7 @@
 -- The next command, once its head is read.
-use Rattle.std.proofs.Common.{◌≡◌, ℕ, ◌-◌, false, List, length, drop, sym, refl, ◌∙◌, length-drop}
+use Rattle.std.proofs.Common.{◌≡◌, ℕ, ◌-◌, false, List, length, drop, sym, length-drop}
 use Rattle.meaning.specs.declared.tree.Span.{Span}
-use Rattle.packing.specs.Reader.{Outcome, read, refused, Reader}
+use Rattle.packing.specs.Reader.{read, refused, Reader}
 use Rattle.meaning.specs.declared.fault.Cause.TheVariants.{Malformed, Misplaced}
 use Rattle.packing.specs.Unpacking.{all_inside}
 use Rattle.reader.specs.Verdicts.{well_placed}

@@ -1,9 +1,8 @@
 -- Members read one after another, and a variable's part of the tree.
-use Rattle.std.proofs.Common.{◌≡◌, ℕ, zero, suc, ◌+◌, ◌-◌, ◌<◌, ◌≤◌, Bool, true, false, leb, ◌⊎◌, List, [], ◌∷◌, ◌++◌, length, take, drop, sym, refl, ap, ◌∙◌, subst, inl, inr, append_assoc, arith, length-append, length-drop, take-append-drop, drop-drop, le-leb}
+use Rattle.std.proofs.Common.{◌≡◌, ℕ, zero, suc, ◌+◌, ◌-◌, ◌<◌, ◌≤◌, Bool, true, false, ◌⊎◌, List, [], ◌∷◌, ◌++◌, length, take, drop, sym, refl, ap, ◌∙◌, inl, inr, append_assoc, arith, length-append, length-drop, drop-drop, le-leb}
 use borrow.Author.Tests.{lt-leb}
 use Rattle.meaning.specs.declared.tree.Member.{Member}
 use Rattle.meaning.specs.Tree.{Var}
-use Rattle.meaning.specs.declared.tree.Access.{Access}
 use Rattle.meaning.specs.declared.tree.Access.TheVariants.{Index, Key}
 use Rattle.meaning.specs.Tree.{members}
 use Rattle.packing.specs.Packing.{flag_byte}

@@ -1,5 +1,5 @@
 -- The bytes left at a position, and what is read of them.
-use Rattle.std.proofs.Common.{◌≡◌, ℕ, zero, suc, ◌+◌, ◌-◌, ◌*◌, ◌<◌, ◌≤◌, List, [], ◌∷◌, length, get_or, take, drop, Some, None, Option, sym, refl, ap, ◌∙◌, add-one, arith, length-drop, drop_of_length-le, get_or-drop, drop-cons, drop-drop, lt-ltb}
+use Rattle.std.proofs.Common.{◌≡◌, ℕ, zero, suc, ◌+◌, ◌-◌, ◌*◌, ◌<◌, ◌≤◌, List, [], ◌∷◌, length, get_or, take, drop, Some, None, Option, sym, refl, add-one, arith, length-drop, drop_of_length-le, get_or-drop, drop-cons, drop-drop, lt-ltb}
 use Rattle.reader.specs.Fields.{Within, Strictly}
 use Rattle.meaning.specs.Or.{gives, fails}
 use Rattle.packing.specs.Reader.{Outcome, read, refused, byte, bytes, word}

@@ -1,5 +1,5 @@
 -- Spans that are tested one after another.
-use Rattle.std.proofs.Common.{◌≡◌, ℕ, suc, ◌<◌, ◌≤◌, Bool, true, false, ◌&&◌, List, sym, refl, ◌∙◌, le-leb}
+use Rattle.std.proofs.Common.{◌≡◌, ℕ, suc, ◌<◌, ◌≤◌, Bool, true, false, ◌&&◌, List, sym, refl, le-leb}
 use borrow.Author.Tests.{lt-leb}
 use Rattle.packing.specs.Rfc3629.{between_characters}
 use Rattle.meaning.specs.declared.tree.Member.{Member}

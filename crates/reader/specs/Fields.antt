@@ -7,7 +7,7 @@ use Rattle.meaning.specs.declared.fault.Cause.TheVariants.{Malformed}
 use Rattle.meaning.specs.Or.{gives, fails}
 use Rattle.meaning.specs.Tree.{String, members}
 use Rattle.meaning.specs.declared.tree.Member.{Member}
-use Rattle.packing.specs.Unpacking.{member, more_members, variable}
+use Rattle.packing.specs.Unpacking.{member, variable}
 use Rattle.reader.specs.declared.field.PackedText.{PackedText}
 use Rattle.reader.specs.declared.field.Members.{Members}
 

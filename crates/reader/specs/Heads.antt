@@ -1,7 +1,6 @@
 -- The heads of commands: what stands before the first child. A head is read (malformed), then its spans are
 -- tested (misplaced), then its nesting (too deep); only then its children are read.
-use Rattle.std.specs.Prelude.{ℕ, zero, suc, Bool, true, false, List, [], ◌∷◌, nat_le}
-use Rattle.meaning.specs.Value.{Value, Text, none, boolean, integer, float, string}
+use Rattle.std.specs.Prelude.{ℕ, zero, suc, Bool, List, [], ◌∷◌, nat_le}
 use Rattle.meaning.specs.declared.tree.Span.{Span}
 use Rattle.meaning.specs.Tree.{String}
 use Rattle.meaning.specs.declared.tree.Member.{Member}

@@ -1,5 +1,5 @@
 -- What the checker answers, by the outcomes of readers.
-use Rattle.std.specs.Prelude.{◌≡◌, ℕ, ◌-◌, ◌<◌, ◌≤◌, List, length, drop, Ok, Err, Result}
+use Rattle.std.specs.Prelude.{ℕ, ◌-◌, ◌<◌, ◌≤◌, List, length, drop, Ok, Err, Result}
 use Rattle.meaning.specs.declared.tree.Span.{Span}
 use Rattle.packing.specs.Reader.{Outcome, read, refused, Reader}
 use Rattle.meaning.specs.Step.{return, ◌>>=◌, ◌>>◌}

@@ -1,4 +1,7 @@
 //! What takes the text of a rendering: a page, a counter, and limits that are layers over any sink.
+
+#![tactic(auto)]
+
 pub mod counter;
 pub mod lent;
 pub mod limit;

@@ -1,4 +1,7 @@
 //! A bounded stack over lent memory, one text for every kind of entry.
+
+#![tactic(auto)]
+
 ghost use Rattle.std.specs.Prelude.{◌≤◌, length};
 
 pub mod entries;

@@ -1,3 +1,5 @@
 //! Tests of the store.
 
+#![tactic(auto)]
+
 mod owner;

@@ -5,34 +5,34 @@ use Rattle.reader.specs.Fields.{ended}
 use Rattle.checker.specs.Rests.{from_first}
 use Rattle.checker.proofs.check.+check_args_check_base_check_expr_check_inside_check_pairs.Given as goal
 
-abbrev pub decreases-check-expr : goal.decreases-check-expr
-decreases-check-expr l = 3 * l.levels
+abbrev pub decreases-check_expr : goal.decreases-check_expr
+decreases-check_expr l = 3 * l.levels
 
-abbrev pub decreases-check-base : goal.decreases-check-base
-decreases-check-base l = 3 * l.levels
+abbrev pub decreases-check_base : goal.decreases-check_base
+decreases-check_base l = 3 * l.levels
 
-abbrev pub decreases-check-args : goal.decreases-check-args
-decreases-check-args l = 3 * l.levels + 1
+abbrev pub decreases-check_args : goal.decreases-check_args
+decreases-check_args l = 3 * l.levels + 1
 
-abbrev pub decreases-check-pairs : goal.decreases-check-pairs
-decreases-check-pairs l = 3 * l.levels + 1
+abbrev pub decreases-check_pairs : goal.decreases-check_pairs
+decreases-check_pairs l = 3 * l.levels + 1
 
-abbrev pub decreases-check-inside : goal.decreases-check-inside
-decreases-check-inside l = 3 * l.levels + 2
+abbrev pub decreases-check_inside : goal.decreases-check_inside
+decreases-check_inside l = 3 * l.levels + 2
 
 -- what is left of the arguments gives the whole answer
-abbrev pub invariant-check-args-loop-arg : goal.invariant-check-args-loop-arg
-invariant-check-args-loop-arg l =
+abbrev pub invariant-check_args-loop-arg : goal.invariant-check_args-loop-arg
+invariant-check_args-loop-arg l =
     (l.initial.at ≤ l.at)
     × (l.at ≤ length l.tree)
-    × ((left : ℕ) × (left + l.-arg ≡ l.count)
+    × ((left : ℕ) × (left + l._arg ≡ l.count)
     × (ended (args (base_within l.source l.levels) left (drop l.at l.tree)) ≡ ended (args (base_within l.source l.levels) l.count (drop l.pos l.tree))))
 
 -- what is left of the pairs gives the whole answer
-abbrev pub invariant-check-pairs-loop-pair : goal.invariant-check-pairs-loop-pair
-invariant-check-pairs-loop-pair l =
+abbrev pub invariant-check_pairs-loop-pair : goal.invariant-check_pairs-loop-pair
+invariant-check_pairs-loop-pair l =
     (l.pos ≤ l.at)
     × (l.at ≤ length l.tree)
-    × ((left : ℕ) × (left + l.-pair ≡ l.more)
+    × ((left : ℕ) × (left + l._pair ≡ l.more)
     × (ended (pairs l.source (length l.tree - l.start) true (base_within l.source l.levels) left [] (drop l.at l.tree))
     ≡ ended (from_first l.source (length l.tree - l.start) true (base_within l.source l.levels) l.more (drop l.pos l.tree))))

@@ -4,27 +4,27 @@ use Rattle.packing.specs.Unpacking.{scope_within}
 use Rattle.reader.specs.Fields.{ended}
 use Rattle.checker.proofs.check.+check_block_check_branches_check_nested_check_scope_check_stmt.Given as goal
 
-abbrev pub decreases-check-block : goal.decreases-check-block
-decreases-check-block l = 8 * l.levels + 4
+abbrev pub decreases-check_block : goal.decreases-check_block
+decreases-check_block l = 8 * l.levels + 4
 
-abbrev pub decreases-check-scope : goal.decreases-check-scope
-decreases-check-scope l = 8 * l.levels + 3
+abbrev pub decreases-check_scope : goal.decreases-check_scope
+decreases-check_scope l = 8 * l.levels + 3
 
-abbrev pub decreases-check-stmt : goal.decreases-check-stmt
-decreases-check-stmt l = 8 * l.levels + 2
+abbrev pub decreases-check_stmt : goal.decreases-check_stmt
+decreases-check_stmt l = 8 * l.levels + 2
 
-abbrev pub decreases-check-nested : goal.decreases-check-nested
-decreases-check-nested l = 8 * l.levels + 1
+abbrev pub decreases-check_nested : goal.decreases-check_nested
+decreases-check_nested l = 8 * l.levels + 1
 
-abbrev pub decreases-check-branches : goal.decreases-check-branches
-decreases-check-branches l = 8 * l.levels + 1
+abbrev pub decreases-check_branches : goal.decreases-check_branches
+decreases-check_branches l = 8 * l.levels + 1
 
 -- what is left of the scope gives the whole answer
-abbrev pub invariant-check-scope-loop-command : goal.invariant-check-scope-loop-command
-invariant-check-scope-loop-command l =
+abbrev pub invariant-check_scope-loop-command : goal.invariant-check_scope-loop-command
+invariant-check_scope-loop-command l =
     (l.pos ≤ l.at)
     × (l.at ≤ length l.tree)
     × (ended (scope_within l.source l.levels (drop l.at l.tree)) ≡ ended (scope_within l.source l.levels (drop l.pos l.tree)))
 
-abbrev pub decreases-check-scope-loop-command : goal.decreases-check-scope-loop-command
-decreases-check-scope-loop-command l = length l.tree - l.at
+abbrev pub decreases-check_scope-loop-command : goal.decreases-check_scope-loop-command
+decreases-check_scope-loop-command l = length l.tree - l.at

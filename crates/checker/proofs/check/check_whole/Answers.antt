@@ -3,4 +3,4 @@ use Rattle.checker.proofs.check.check_whole.Goals as goal
 
 pub returns : goal.returns
 unfolding whole_expr
-returns c = record { same = c.check-expr.ensures.same; moves = c.check-expr.ensures.moves }
+returns c = record { same = c.check_expr.ensures.same; moves = c.check_expr.ensures.moves }

@@ -7,39 +7,39 @@ use Rattle.compiler.proofs.Rows.{ArgsLeft, PairsLeft}
 use Rattle.compiler.proofs.compile.+compile_args_compile_base_expr_compile_behind_compile_expr_compile_items_compile_pairs.Given as goal
 
 -- the bytes left, and then a rank where a call does not move on
-abbrev pub decreases-compile-args : goal.decreases-compile-args
-decreases-compile-args l = 3 * (length l.tree.now - l.pos) + 1
+abbrev pub decreases-compile_args : goal.decreases-compile_args
+decreases-compile_args l = 3 * (length l.tree.now - l.pos) + 1
 
-abbrev pub decreases-compile-base-expr : goal.decreases-compile-base-expr
-decreases-compile-base-expr l = 3 * (length l.tree.now - l.pos)
+abbrev pub decreases-compile_base_expr : goal.decreases-compile_base_expr
+decreases-compile_base_expr l = 3 * (length l.tree.now - l.pos)
 
-abbrev pub decreases-compile-behind : goal.decreases-compile-behind
-decreases-compile-behind l = 3 * (length l.tree.now - l.pos) + 2
+abbrev pub decreases-compile_behind : goal.decreases-compile_behind
+decreases-compile_behind l = 3 * (length l.tree.now - l.pos) + 2
 
-abbrev pub decreases-compile-expr : goal.decreases-compile-expr
-decreases-compile-expr l = 3 * (length l.tree.now - l.pos)
+abbrev pub decreases-compile_expr : goal.decreases-compile_expr
+decreases-compile_expr l = 3 * (length l.tree.now - l.pos)
 
-abbrev pub decreases-compile-items : goal.decreases-compile-items
-decreases-compile-items l = 3 * (length l.tree.now - l.pos) + 1
+abbrev pub decreases-compile_items : goal.decreases-compile_items
+decreases-compile_items l = 3 * (length l.tree.now - l.pos) + 1
 
-abbrev pub decreases-compile-pairs : goal.decreases-compile-pairs
-decreases-compile-pairs l = 3 * (length l.tree.now - l.pos) + 1
+abbrev pub decreases-compile_pairs : goal.decreases-compile_pairs
+decreases-compile_pairs l = 3 * (length l.tree.now - l.pos) + 1
 
 -- with what is left it gives the whole
-abbrev pub invariant-compile-args-loop-arg : goal.invariant-compile-args-loop-arg
-invariant-compile-args-loop-arg l =
+abbrev pub invariant-compile_args-loop-arg : goal.invariant-compile_args-loop-arg
+invariant-compile_args-loop-arg l =
     (l.pos ≤ l.at.pos) × (l.at.len ≤ l.at.pos)
     × ((w : Over (λ s. ArgsThere s l.tree l.count l.pos))
-    → ArgsLeft compile_args w.source l.tree w.there.args (l.pos + length (pack_args w.there.args)) l.len l.initial.instrs (l.count - l.-arg) l.at l.instrs)
+    → ArgsLeft compile_args w.source l.tree w.there.args (l.pos + length (pack_args w.there.args)) l.len l.initial.instrs (l.count - l._arg) l.at l.instrs)
 
-abbrev pub invariant-compile-items-loop-item : goal.invariant-compile-items-loop-item
-invariant-compile-items-loop-item l =
+abbrev pub invariant-compile_items-loop-item : goal.invariant-compile_items-loop-item
+invariant-compile_items-loop-item l =
     (l.pos ≤ l.at.pos) × (l.at.len ≤ l.at.pos) × (l.at.applied ≡ false)
     × ((w : Over (λ s. ArgsThere s l.tree l.count l.pos))
-    → ArgsLeft compile_items w.source l.tree w.there.args (l.pos + length (pack_args w.there.args)) l.len l.initial.instrs (l.count - l.-item) l.at l.instrs)
+    → ArgsLeft compile_items w.source l.tree w.there.args (l.pos + length (pack_args w.there.args)) l.len l.initial.instrs (l.count - l._item) l.at l.instrs)
 
-abbrev pub invariant-compile-pairs-loop-pair : goal.invariant-compile-pairs-loop-pair
-invariant-compile-pairs-loop-pair l =
+abbrev pub invariant-compile_pairs-loop-pair : goal.invariant-compile_pairs-loop-pair
+invariant-compile_pairs-loop-pair l =
     (l.pos ≤ l.at.pos) × (l.at.len ≤ l.at.pos) × (l.at.applied ≡ false)
     × ((w : Over (λ s. PairsThere s l.tree l.count l.pos))
-    → PairsLeft w.source l.tree w.there.pairs (l.pos + length (pack_pairs w.there.pairs)) l.len l.initial.instrs (l.count - l.-pair) l.at l.instrs)
+    → PairsLeft w.source l.tree w.there.pairs (l.pos + length (pack_pairs w.there.pairs)) l.len l.initial.instrs (l.count - l._pair) l.at l.instrs)

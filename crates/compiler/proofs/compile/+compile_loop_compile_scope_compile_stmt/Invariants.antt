@@ -6,21 +6,21 @@ use Rattle.compiler.proofs.Rows.{ScopeLeft}
 use Rattle.compiler.proofs.compile.+compile_loop_compile_scope_compile_stmt.Given as goal
 
 -- the bytes left, and then a rank where a call does not move on
-abbrev pub decreases-compile-scope : goal.decreases-compile-scope
-decreases-compile-scope l = 3 * (length l.tree.now - l.pos)
+abbrev pub decreases-compile_scope : goal.decreases-compile_scope
+decreases-compile_scope l = 3 * (length l.tree.now - l.pos)
 
-abbrev pub decreases-compile-loop : goal.decreases-compile-loop
-decreases-compile-loop l = 3 * (length l.tree.now - l.pos) + 1
+abbrev pub decreases-compile_loop : goal.decreases-compile_loop
+decreases-compile_loop l = 3 * (length l.tree.now - l.pos) + 1
 
-abbrev pub decreases-compile-stmt : goal.decreases-compile-stmt
-decreases-compile-stmt l = 3 * (length l.tree.now - l.pos) + 2
+abbrev pub decreases-compile_stmt : goal.decreases-compile_stmt
+decreases-compile_stmt l = 3 * (length l.tree.now - l.pos) + 2
 
 -- with what is left it gives the whole
-abbrev pub invariant-compile-scope-loop-command : goal.invariant-compile-scope-loop-command
-invariant-compile-scope-loop-command l =
+abbrev pub invariant-compile_scope-loop-command : goal.invariant-compile_scope-loop-command
+invariant-compile_scope-loop-command l =
     (l.pos ≤ l.at.pos) × (l.at.len ≤ l.at.pos)
     × ((w : Over (λ s. ScopeThere s l.tree l.pos))
     → ScopeLeft w.source l.tree w.there.scope (l.pos + length (pack w.there.scope)) l.len l.initial.instrs l.at l.instrs)
 
-abbrev pub decreases-compile-scope-loop-command : goal.decreases-compile-scope-loop-command
-decreases-compile-scope-loop-command l = length l.tree - l.at.pos
+abbrev pub decreases-compile_scope-loop-command : goal.decreases-compile_scope-loop-command
+decreases-compile_scope-loop-command l = length l.tree - l.at.pos

@@ -14,9 +14,9 @@ use Rattle.compiler.proofs.compile.pop_emit_expr.Goals as goal
 pub returns-then-expr : goal.returns-then-expr
 returns-then-expr c = λ tree e end from before m told.
     let emitted = made_emitted (applied_expr e (sym told ∙ c.if-expr.true)) m in
-    let writes : retagged c.args.instrs.now (c.args.expr.len - 1) ≡ c.emit-applied.new.instrs =
-    ap (λ k. retagged c.args.instrs.now k) (sym c.saturating-sub.ensures) ∙ sym c.emit-applied.ensures in
-    subst (λ (r : Compiler). Made tree (emit_expr e) end from r.pos r.len before c.emit-applied.new.instrs) (sym c.moved.ensures)
+    let writes : retagged c.args.instrs.now (c.args.expr.len - 1) ≡ c.emit_applied.new.instrs =
+    ap (λ k. retagged c.args.instrs.now k) (sym c.saturating_sub.ensures) ∙ sym c.emit_applied.ensures in
+    subst (λ (r : Compiler). Made tree (emit_expr e) end from r.pos r.len before c.emit_applied.new.instrs) (sym c.moved.ensures)
     (subst (λ (out : List Instr). Made tree (emit_expr e) end from c.args.expr.pos c.args.expr.len before out) writes emitted)
 
 pub returns : goal.returns

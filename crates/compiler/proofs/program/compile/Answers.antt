@@ -9,30 +9,30 @@ use Rattle.compiler.specs.Answers.{Holds}
 use Rattle.compiler.proofs.Wholes.{whole_over, whole_room, whole_counts, whole_holds}
 use Rattle.compiler.proofs.program.compile.Goals as goal
 
-pub compile-scope-counted-requires : goal.compile-scope-counted-requires
-compile-scope-counted-requires c =
+pub compile_scope-counted-requires : goal.compile_scope-counted-requires
+compile_scope-counted-requires c =
     let source = source_of c.args.template.now in
     let tree = c.tree-tree.result.now in
     record { room = whole_room source tree c.tree-tree.ensures.ok; there = whole_over source tree c.tree-tree.ensures.ok }
 
-pub returns-then-counted-gt-MOST-INSTRUCTIONS : goal.returns-then-counted-gt-MOST-INSTRUCTIONS
-returns-then-counted-gt-MOST-INSTRUCTIONS c = λ scope e.
+pub returns-then-counted-gt-MOST_INSTRUCTIONS : goal.returns-then-counted-gt-MOST_INSTRUCTIONS
+returns-then-counted-gt-MOST_INSTRUCTIONS c = λ scope e.
     let source = source_of c.args.template.now in
     let tree = c.tree-tree.result.now in
     let e' : unpack source tree ≡ gives scope = ap (λ (t : List ℕ). unpack source t) c.tree-tree.ensures.bytes ∙ e in
-    let counts = whole_counts source tree scope e' c.compile-scope-counted.result c.compile-scope-counted.ensures in
-    (omega arith, c.of-call.ensures ∙ ap (fault TooManyInstructions) counts, refl)
+    let counts = whole_counts source tree scope e' c.compile_scope-counted.result c.compile_scope-counted.ensures in
+    (omega arith, c.of_call.ensures ∙ ap (fault TooManyInstructions) counts, refl)
 
 pub returns-then-counted-instrs : goal.returns-then-counted-instrs
 returns-then-counted-instrs c = λ scope e.
     let source = source_of c.args.template.now in
     let tree = c.tree-tree.result.now in
     let e' : unpack source tree ≡ gives scope = ap (λ (t : List ℕ). unpack source t) c.tree-tree.ensures.bytes ∙ e in
-    let counts = whole_counts source tree scope e' c.compile-scope-counted.result c.compile-scope-counted.ensures in
+    let counts = whole_counts source tree scope e' c.compile_scope-counted.result c.compile_scope-counted.ensures in
     (counts, omega arith, omega arith, refl)
 
-pub compile-scope-written-requires : goal.compile-scope-written-requires
-compile-scope-written-requires c =
+pub compile_scope-written-requires : goal.compile_scope-written-requires
+compile_scope-written-requires c =
     let source = source_of c.args.template.now in
     let tree = c.tree-tree.result.now in
     record { room = whole_room source tree c.tree-tree.ensures.ok; there = whole_over source tree c.tree-tree.ensures.ok }
@@ -42,7 +42,7 @@ returns c = λ scope e.
     let source = source_of c.args.template.now in
     let tree = c.tree-tree.result.now in
     let e' : unpack source tree ≡ gives scope = ap (λ (t : List ℕ). unpack source t) c.tree-tree.ensures.bytes ∙ e in
-    let counted = whole_counts source tree scope e' c.compile-scope-counted.result c.compile-scope-counted.ensures in
-    let counts = whole_counts source tree scope e' c.compile-scope-written.result c.compile-scope-written.ensures in
-    let room : c.compile-scope-written.result.len ≤ length c.args.instrs.now = omega arith in
-    (counts, omega arith, subst (λ (t : List ℕ). Holds t (program.compile scope) c.args.instrs.now c.compile-scope-written.new.instrs) c.tree-tree.ensures.bytes (whole_holds source tree scope e' c.compile-scope-written.result room c.compile-scope-written.ensures))
+    let counted = whole_counts source tree scope e' c.compile_scope-counted.result c.compile_scope-counted.ensures in
+    let counts = whole_counts source tree scope e' c.compile_scope-written.result c.compile_scope-written.ensures in
+    let room : c.compile_scope-written.result.len ≤ length c.args.instrs.now = omega arith in
+    (counts, omega arith, subst (λ (t : List ℕ). Holds t (program.compile scope) c.args.instrs.now c.compile_scope-written.new.instrs) c.tree-tree.ensures.bytes (whole_holds source tree scope e' c.compile_scope-written.result room c.compile_scope-written.ensures))

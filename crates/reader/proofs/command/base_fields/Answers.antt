@@ -1,4 +1,4 @@
-use Rattle.std.proofs.Common.{sym, ◌∙◌, arith}
+use Rattle.std.proofs.Common.{sym, arith}
 use Rattle.packing.specs.Reader.{coded}
 use Rattle.reader.specs.Heads.{base_fields}
 use Rattle.reader.specs.AfterByte.{base_after}
@@ -6,71 +6,71 @@ use Rattle.reader.proofs.Readings.{further}
 use Rattle.reader.proofs.AfterBytes.{base_unknown}
 use Rattle.reader.proofs.command.base_fields.Goals as goal
 
-pub returns-in-err-members : goal.returns-in-err-members
+pub returns-in_err-members-in-16 : goal.returns-in_err-members-in-16
 unfolding base_after base_fields coded
-returns-in-err-members c = rw c.from-residual.ensures (record { same = λ at. rw (c.in-16.is, sym (c.in-err-members.ensures.same at)); moves = tt })
+returns-in_err-members-in-16 c = rw c.from_residual.ensures (record { same = λ at. rw (c.in-16.is, sym (c.in_err-members-in-16.ensures.same at)); moves = tt })
 
-pub returns-in-ok-members : goal.returns-in-ok-members
+pub returns-in_ok-members-in-16 : goal.returns-in_ok-members-in-16
 unfolding base_after base_fields coded
-returns-in-ok-members c = record {
-  same = λ at. rw (c.in-16.is, sym (c.in-ok-members.ensures.same at));
-  moves = c.in-ok-members.ensures.moves;
+returns-in_ok-members-in-16 c = record {
+  same = λ at. rw (c.in-16.is, sym (c.in_ok-members-in-16.ensures.same at));
+  moves = c.in_ok-members-in-16.ensures.moves;
 }
 
-pub returns-in-err-literal : goal.returns-in-err-literal
+pub returns-in_err-literal-in-17 : goal.returns-in_err-literal-in-17
 unfolding base_after base_fields coded
-returns-in-err-literal c = rw c.from-residual-in-err-literal.ensures (record { same = λ at. rw (c.in-17.is, sym (c.in-err-literal.ensures.same at)); moves = tt })
+returns-in_err-literal-in-17 c = rw c.from_residual-in_err-literal-in-17.ensures (record { same = λ at. rw (c.in-17.is, sym (c.in_err-literal-in-17.ensures.same at)); moves = tt })
 
-pub returns-in-ok-literal : goal.returns-in-ok-literal
+pub returns-in_ok-literal-in-17 : goal.returns-in_ok-literal-in-17
 unfolding base_after base_fields coded
-returns-in-ok-literal c = record {
-  same = λ at. rw (c.in-17.is, sym (c.in-ok-literal.ensures.same at));
-  moves = c.in-ok-literal.ensures.moves;
+returns-in_ok-literal-in-17 c = record {
+  same = λ at. rw (c.in-17.is, sym (c.in_ok-literal-in-17.ensures.same at));
+  moves = c.in_ok-literal-in-17.ensures.moves;
 }
 
-pub returns-in-err-list : goal.returns-in-err-list
+pub returns-in_err-list-in-18 : goal.returns-in_err-list-in-18
 unfolding base_after base_fields coded
-returns-in-err-list c = rw c.from-residual-in-err-list.ensures (record { same = λ at. rw (c.in-18.is, sym (c.in-err-list.ensures.same at)); moves = tt })
+returns-in_err-list-in-18 c = rw c.from_residual-in_err-list-in-18.ensures (record { same = λ at. rw (c.in-18.is, sym (c.in_err-list-in-18.ensures.same at)); moves = tt })
 
-pub returns-in-err-parts : goal.returns-in-err-parts
+pub returns-in_err-parts-in-18 : goal.returns-in_err-parts-in-18
 unfolding base_after base_fields coded
-returns-in-err-parts c = rw c.from-residual-in-err-parts.ensures (record { same = λ at. rw (c.in-18.is, sym (c.in-ok-list.ensures.same at), sym (c.in-err-parts.ensures.same at)); moves = tt })
+returns-in_err-parts-in-18 c = rw c.from_residual-in_err-parts-in-18.ensures (record { same = λ at. rw (c.in-18.is, sym (c.in_ok-list-in-18.ensures.same at), sym (c.in_err-parts-in-18.ensures.same at)); moves = tt })
 
-pub returns-in-ok-parts : goal.returns-in-ok-parts
+pub returns-in_ok-parts-in-18 : goal.returns-in_ok-parts-in-18
 unfolding base_after base_fields coded
-returns-in-ok-parts c = record {
-  same = λ at. rw (c.in-18.is, sym (c.in-ok-list.ensures.same at), sym (c.in-ok-parts.ensures.same at));
-  moves = further c.in-ok-list.ensures.moves c.in-ok-parts.ensures.moves;
+returns-in_ok-parts-in-18 c = record {
+  same = λ at. rw (c.in-18.is, sym (c.in_ok-list-in-18.ensures.same at), sym (c.in_ok-parts-in-18.ensures.same at));
+  moves = further c.in_ok-list-in-18.ensures.moves c.in_ok-parts-in-18.ensures.moves;
 }
 
 pub returns-in-19 : goal.returns-in-19
 unfolding base_after base_fields coded
 returns-in-19 c = record {
-  same = λ at. rw (c.in-19.is, sym (c.read-map.ensures.same at));
-  moves = c.read-map.ensures.moves;
+  same = λ at. rw (c.in-19.is, sym (c.read_map.ensures.same at));
+  moves = c.read_map.ensures.moves;
 }
 
-pub returns-in-err-paren : goal.returns-in-err-paren
+pub returns-in_err-paren-in-20 : goal.returns-in_err-paren-in-20
 unfolding base_after base_fields coded
-returns-in-err-paren c = rw c.from-residual-in-err-paren.ensures (record { same = λ at. rw (c.in-20.is, sym (c.in-err-paren.ensures.same at)); moves = tt })
+returns-in_err-paren-in-20 c = rw c.from_residual-in_err-paren-in-20.ensures (record { same = λ at. rw (c.in-20.is, sym (c.in_err-paren-in-20.ensures.same at)); moves = tt })
 
-pub returns-in-ok-paren : goal.returns-in-ok-paren
+pub returns-in_ok-paren-in-20 : goal.returns-in_ok-paren-in-20
 unfolding base_after base_fields coded
-returns-in-ok-paren c = record {
-  same = λ at. rw (c.in-20.is, sym (c.in-ok-paren.ensures.same at));
-  moves = c.in-ok-paren.ensures.moves;
+returns-in_ok-paren-in-20 c = record {
+  same = λ at. rw (c.in-20.is, sym (c.in_ok-paren-in-20.ensures.same at));
+  moves = c.in_ok-paren-in-20.ensures.moves;
 }
 
-pub returns-in-err-name : goal.returns-in-err-name
+pub returns-in_err-name-in-21 : goal.returns-in_err-name-in-21
 unfolding base_after base_fields coded
-returns-in-err-name c = rw c.from-residual-in-err-name.ensures (record { same = λ at. rw (c.in-21.is, sym (c.in-err-name.ensures.same at)); moves = tt })
+returns-in_err-name-in-21 c = rw c.from_residual-in_err-name-in-21.ensures (record { same = λ at. rw (c.in-21.is, sym (c.in_err-name-in-21.ensures.same at)); moves = tt })
 
-pub returns-in-ok-name : goal.returns-in-ok-name
+pub returns-in_ok-name-in-21 : goal.returns-in_ok-name-in-21
 unfolding base_after base_fields coded
-returns-in-ok-name c = record {
-  same = λ at. rw (c.in-21.is, sym (c.in-ok-name.ensures.same at));
-  moves = c.in-ok-name.ensures.moves;
+returns-in_ok-name-in-21 c = record {
+  same = λ at. rw (c.in-21.is, sym (c.in_ok-name-in-21.ensures.same at));
+  moves = c.in_ok-name-in-21.ensures.moves;
 }
 
-pub returns-in-default : goal.returns-in-default
-returns-in-default c = record { same = λ at. base_unknown c.args.byte at _ (λ same. omega arith, (λ same. omega arith, (λ same. omega arith, (λ same. omega arith, (λ same. omega arith, (λ same. omega arith, tt)))))); moves = tt }
+pub returns-in_default : goal.returns-in_default
+returns-in_default c = record { same = λ at. base_unknown c.args.byte at _ (λ same. omega arith, (λ same. omega arith, (λ same. omega arith, (λ same. omega arith, (λ same. omega arith, (λ same. omega arith, tt)))))); moves = tt }

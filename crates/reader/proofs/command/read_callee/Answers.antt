@@ -4,34 +4,34 @@ use Rattle.reader.specs.Heads.{callee}
 use Rattle.reader.proofs.Readings.{further}
 use Rattle.reader.proofs.command.read_callee.Goals as goal
 
-pub returns-in-err-name : goal.returns-in-err-name
+pub returns-in_err-name : goal.returns-in_err-name
 unfolding callee
-returns-in-err-name c =
-    rw c.from-residual.ensures
-    (record { same = λ at. rw (sym (c.in-err-name.ensures.same at)); moves = tt })
+returns-in_err-name c =
+    rw c.from_residual.ensures
+    (record { same = λ at. rw (sym (c.in_err-name.ensures.same at)); moves = tt })
 
-pub returns-in-err-whole : goal.returns-in-err-whole
+pub returns-in_err-whole : goal.returns-in_err-whole
 unfolding callee
-returns-in-err-whole c =
-    rw c.from-residual-in-err-whole.ensures
-    (record { same = λ at. rw (sym (c.in-ok-name.ensures.same at), sym (c.in-err-whole.ensures.same at)); moves = tt })
+returns-in_err-whole c =
+    rw c.from_residual-in_err-whole.ensures
+    (record { same = λ at. rw (sym (c.in_ok-name.ensures.same at), sym (c.in_err-whole.ensures.same at)); moves = tt })
 
-pub returns-in-err-count : goal.returns-in-err-count
+pub returns-in_err-count : goal.returns-in_err-count
 unfolding callee
-returns-in-err-count c =
-    rw c.from-residual-in-err-count.ensures
-    (record { same = λ at. rw (sym (c.in-ok-name.ensures.same at), sym (c.in-ok-whole.ensures.same at), sym (c.in-err-count.ensures.same at)); moves = tt })
+returns-in_err-count c =
+    rw c.from_residual-in_err-count.ensures
+    (record { same = λ at. rw (sym (c.in_ok-name.ensures.same at), sym (c.in_ok-whole.ensures.same at), sym (c.in_err-count.ensures.same at)); moves = tt })
 
 pub returns-then-count-most : goal.returns-then-count-most
 unfolding callee
 returns-then-count-most c = record {
-  same = λ at. rw (sym (c.in-ok-name.ensures.same at), sym (c.in-ok-whole.ensures.same at), sym (c.in-ok-count.ensures.same at), le-leb c.in-ok-count.count c.args.most c.if-count-most.true);
-  moves = further (further c.in-ok-name.ensures.moves c.in-ok-whole.ensures.moves) c.in-ok-count.ensures.moves;
+  same = λ at. rw (sym (c.in_ok-name.ensures.same at), sym (c.in_ok-whole.ensures.same at), sym (c.in_ok-count.ensures.same at), le-leb c.in_ok-count.count c.args.most c.if-count-most.true);
+  moves = further (further c.in_ok-name.ensures.moves c.in_ok-whole.ensures.moves) c.in_ok-count.ensures.moves;
 }
 
 pub returns-else-count-most : goal.returns-else-count-most
 unfolding callee
 returns-else-count-most c = record {
-  same = λ at. rw (sym (c.in-ok-name.ensures.same at), sym (c.in-ok-whole.ensures.same at), sym (c.in-ok-count.ensures.same at), lt-leb c.in-ok-count.count c.args.most c.if-count-most.false);
+  same = λ at. rw (sym (c.in_ok-name.ensures.same at), sym (c.in_ok-whole.ensures.same at), sym (c.in_ok-count.ensures.same at), lt-leb c.in_ok-count.count c.args.most c.if-count-most.false);
   moves = tt;
 }

@@ -1,33 +1,33 @@
-use Rattle.std.proofs.Common.{sym, ap, ◌∙◌, arith}
+use Rattle.std.proofs.Common.{sym}
 use Rattle.packing.specs.Reader.{command}
 use Rattle.reader.specs.Heads.{scope_head}
 use Rattle.reader.proofs.Readings.{ahead_further}
 use Rattle.reader.proofs.AfterBytes.{end_follows, stmt_follows}
 use Rattle.reader.proofs.command.scope_command.Goals as goal
 
-pub returns-in-err-byte : goal.returns-in-err-byte
+pub returns-in_err-byte : goal.returns-in_err-byte
 unfolding scope_head command
-returns-in-err-byte c =
-    rw c.from-residual.ensures (record { same = λ at. rw (sym (c.in-err-byte.ensures.same at)); moves = tt })
+returns-in_err-byte c =
+    rw c.from_residual.ensures (record { same = λ at. rw (sym (c.in_err-byte.ensures.same at)); moves = tt })
 
 pub returns-then-byte-eq10 : goal.returns-then-byte-eq10
 returns-then-byte-eq10 c = record {
-  same = λ at. end_follows c.in-ok-byte.byte at _ _ (c.in-ok-byte.ensures.same at) c.if-byte-eq10.true;
-  moves = c.in-ok-byte.ensures.ahead;
+  same = λ at. end_follows c.in_ok-byte.byte at _ _ (c.in_ok-byte.ensures.same at) c.if-byte-eq10.true;
+  moves = c.in_ok-byte.ensures.ahead;
 }
 
-pub returns-in-err-stmt : goal.returns-in-err-stmt
-returns-in-err-stmt c =
-    rw c.from-residual-in-err-stmt.ensures
+pub returns-in_err-stmt : goal.returns-in_err-stmt
+returns-in_err-stmt c =
+    rw c.from_residual-in_err-stmt.ensures
     (record {
       same = λ at.
-          rw (sym (stmt_follows c.in-ok-byte.byte at _ _ (c.in-ok-byte.ensures.same at) (λ e. c.if-byte-eq10.false (sym e))), sym (c.in-err-stmt.ensures.same at));
+          rw (sym (stmt_follows c.in_ok-byte.byte at _ _ (c.in_ok-byte.ensures.same at) (λ e. c.if-byte-eq10.false (sym e))), sym (c.in_err-stmt.ensures.same at));
       moves = tt;
     })
 
 pub returns : goal.returns
 returns c = record {
   same = λ at.
-      rw (sym (stmt_follows c.in-ok-byte.byte at _ _ (c.in-ok-byte.ensures.same at) (λ e. c.if-byte-eq10.false (sym e))), sym (c.in-ok-stmt.ensures.same at));
-  moves = ahead_further c.in-ok-byte.ensures.ahead c.in-ok-stmt.ensures.moves;
+      rw (sym (stmt_follows c.in_ok-byte.byte at _ _ (c.in_ok-byte.ensures.same at) (λ e. c.if-byte-eq10.false (sym e))), sym (c.in_ok-stmt.ensures.same at));
+  moves = ahead_further c.in_ok-byte.ensures.ahead c.in_ok-stmt.ensures.moves;
 }

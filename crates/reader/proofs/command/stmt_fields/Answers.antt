@@ -1,4 +1,4 @@
-use Rattle.std.proofs.Common.{sym, ◌∙◌, le_refl, arith}
+use Rattle.std.proofs.Common.{sym, arith}
 use Rattle.packing.specs.Reader.{coded}
 use Rattle.reader.specs.Heads.{stmt_fields}
 use Rattle.reader.specs.AfterByte.{stmt_after}
@@ -6,15 +6,15 @@ use Rattle.reader.proofs.Readings.{further}
 use Rattle.reader.proofs.AfterBytes.{stmt_unknown}
 use Rattle.reader.proofs.command.stmt_fields.Goals as goal
 
-pub returns-in-err-raw : goal.returns-in-err-raw
+pub returns-in_err-raw-in-1 : goal.returns-in_err-raw-in-1
 unfolding stmt_after stmt_fields coded
-returns-in-err-raw c = rw c.from-residual.ensures (record { same = λ at. rw (c.in-1.is, sym (c.in-err-raw.ensures.same at)); moves = tt })
+returns-in_err-raw-in-1 c = rw c.from_residual.ensures (record { same = λ at. rw (c.in-1.is, sym (c.in_err-raw-in-1.ensures.same at)); moves = tt })
 
-pub returns-in-ok-raw : goal.returns-in-ok-raw
+pub returns-in_ok-raw-in-1 : goal.returns-in_ok-raw-in-1
 unfolding stmt_after stmt_fields coded
-returns-in-ok-raw c = record {
-  same = λ at. rw (c.in-1.is, sym (c.in-ok-raw.ensures.same at));
-  moves = c.in-ok-raw.ensures.moves;
+returns-in_ok-raw-in-1 c = record {
+  same = λ at. rw (c.in-1.is, sym (c.in_ok-raw-in-1.ensures.same at));
+  moves = c.in_ok-raw-in-1.ensures.moves;
 }
 
 pub returns-in-2 : goal.returns-in-2
@@ -24,90 +24,90 @@ returns-in-2 c = record {
   moves = (omega arith, c.requires);
 }
 
-pub returns-in-err-include : goal.returns-in-err-include
+pub returns-in_err-include-in-3 : goal.returns-in_err-include-in-3
 unfolding stmt_after stmt_fields coded
-returns-in-err-include c = rw c.from-residual-in-err-include.ensures (record { same = λ at. rw (c.in-3.is, sym (c.in-err-include.ensures.same at)); moves = tt })
+returns-in_err-include-in-3 c = rw c.from_residual-in_err-include-in-3.ensures (record { same = λ at. rw (c.in-3.is, sym (c.in_err-include-in-3.ensures.same at)); moves = tt })
 
-pub returns-in-ok-include : goal.returns-in-ok-include
+pub returns-in_ok-include-in-3 : goal.returns-in_ok-include-in-3
 unfolding stmt_after stmt_fields coded
-returns-in-ok-include c = record {
-  same = λ at. rw (c.in-3.is, sym (c.in-ok-include.ensures.same at));
-  moves = c.in-ok-include.ensures.moves;
+returns-in_ok-include-in-3 c = record {
+  same = λ at. rw (c.in-3.is, sym (c.in_ok-include-in-3.ensures.same at));
+  moves = c.in_ok-include-in-3.ensures.moves;
 }
 
-pub returns-in-err-include-with : goal.returns-in-err-include-with
+pub returns-in_err-include_with-in-4 : goal.returns-in_err-include_with-in-4
 unfolding stmt_after stmt_fields coded
-returns-in-err-include-with c = rw c.from-residual-in-err-include-with.ensures (record { same = λ at. rw (c.in-4.is, sym (c.in-err-include-with.ensures.same at)); moves = tt })
+returns-in_err-include_with-in-4 c = rw c.from_residual-in_err-include_with-in-4.ensures (record { same = λ at. rw (c.in-4.is, sym (c.in_err-include_with-in-4.ensures.same at)); moves = tt })
 
-pub returns-in-ok-include-with : goal.returns-in-ok-include-with
+pub returns-in_ok-include_with-in-4 : goal.returns-in_ok-include_with-in-4
 unfolding stmt_after stmt_fields coded
-returns-in-ok-include-with c = record {
-  same = λ at. rw (c.in-4.is, sym (c.in-ok-include-with.ensures.same at));
-  moves = c.in-ok-include-with.ensures.moves;
+returns-in_ok-include_with-in-4 c = record {
+  same = λ at. rw (c.in-4.is, sym (c.in_ok-include_with-in-4.ensures.same at));
+  moves = c.in_ok-include_with-in-4.ensures.moves;
 }
 
-pub returns-in-err-negated : goal.returns-in-err-negated
+pub returns-in_err-negated-in-5 : goal.returns-in_err-negated-in-5
 unfolding stmt_after stmt_fields coded
-returns-in-err-negated c = rw c.from-residual-in-err-negated.ensures (record { same = λ at. rw (c.in-5.is, sym (c.in-err-negated.ensures.same at)); moves = tt })
+returns-in_err-negated-in-5 c = rw c.from_residual-in_err-negated-in-5.ensures (record { same = λ at. rw (c.in-5.is, sym (c.in_err-negated-in-5.ensures.same at)); moves = tt })
 
-pub returns-in-ok-negated : goal.returns-in-ok-negated
+pub returns-in_ok-negated-in-5 : goal.returns-in_ok-negated-in-5
 unfolding stmt_after stmt_fields coded
-returns-in-ok-negated c = record {
-  same = λ at. rw (c.in-5.is, sym (c.in-ok-negated.ensures.same at));
-  moves = c.in-ok-negated.ensures.moves;
+returns-in_ok-negated-in-5 c = record {
+  same = λ at. rw (c.in-5.is, sym (c.in_ok-negated-in-5.ensures.same at));
+  moves = c.in_ok-negated-in-5.ensures.moves;
 }
 
-pub returns-in-err-negated-else : goal.returns-in-err-negated-else
+pub returns-in_err-negated_else-in-6 : goal.returns-in_err-negated_else-in-6
 unfolding stmt_after stmt_fields coded
-returns-in-err-negated-else c = rw c.from-residual-in-err-negated-else.ensures (record { same = λ at. rw (c.in-6.is, sym (c.in-err-negated-else.ensures.same at)); moves = tt })
+returns-in_err-negated_else-in-6 c = rw c.from_residual-in_err-negated_else-in-6.ensures (record { same = λ at. rw (c.in-6.is, sym (c.in_err-negated_else-in-6.ensures.same at)); moves = tt })
 
-pub returns-in-ok-negated-else : goal.returns-in-ok-negated-else
+pub returns-in_ok-negated_else-in-6 : goal.returns-in_ok-negated_else-in-6
 unfolding stmt_after stmt_fields coded
-returns-in-ok-negated-else c = record {
-  same = λ at. rw (c.in-6.is, sym (c.in-ok-negated-else.ensures.same at));
-  moves = c.in-ok-negated-else.ensures.moves;
+returns-in_ok-negated_else-in-6 c = record {
+  same = λ at. rw (c.in-6.is, sym (c.in_ok-negated_else-in-6.ensures.same at));
+  moves = c.in_ok-negated_else-in-6.ensures.moves;
 }
 
-pub returns-in-err-item : goal.returns-in-err-item
+pub returns-in_err-item-in-7 : goal.returns-in_err-item-in-7
 unfolding stmt_after stmt_fields coded
-returns-in-err-item c = rw c.from-residual-in-err-item.ensures (record { same = λ at. rw (c.in-7.is, sym (c.in-err-item.ensures.same at)); moves = tt })
+returns-in_err-item-in-7 c = rw c.from_residual-in_err-item-in-7.ensures (record { same = λ at. rw (c.in-7.is, sym (c.in_err-item-in-7.ensures.same at)); moves = tt })
 
-pub returns-in-ok-item : goal.returns-in-ok-item
+pub returns-in_ok-item-in-7 : goal.returns-in_ok-item-in-7
 unfolding stmt_after stmt_fields coded
-returns-in-ok-item c = record {
-  same = λ at. rw (c.in-7.is, sym (c.in-ok-item.ensures.same at));
-  moves = c.in-ok-item.ensures.moves;
+returns-in_ok-item-in-7 c = record {
+  same = λ at. rw (c.in-7.is, sym (c.in_ok-item-in-7.ensures.same at));
+  moves = c.in_ok-item-in-7.ensures.moves;
 }
 
-pub returns-in-err-key : goal.returns-in-err-key
+pub returns-in_err-key-in-8 : goal.returns-in_err-key-in-8
 unfolding stmt_after stmt_fields coded
-returns-in-err-key c = rw c.from-residual-in-err-key.ensures (record { same = λ at. rw (c.in-8.is, sym (c.in-err-key.ensures.same at)); moves = tt })
+returns-in_err-key-in-8 c = rw c.from_residual-in_err-key-in-8.ensures (record { same = λ at. rw (c.in-8.is, sym (c.in_err-key-in-8.ensures.same at)); moves = tt })
 
-pub returns-in-err-value : goal.returns-in-err-value
+pub returns-in_err-value-in-8 : goal.returns-in_err-value-in-8
 unfolding stmt_after stmt_fields coded
-returns-in-err-value c = rw c.from-residual-in-err-value.ensures (record { same = λ at. rw (c.in-8.is, sym (c.in-ok-key.ensures.same at), sym (c.in-err-value.ensures.same at)); moves = tt })
+returns-in_err-value-in-8 c = rw c.from_residual-in_err-value-in-8.ensures (record { same = λ at. rw (c.in-8.is, sym (c.in_ok-key-in-8.ensures.same at), sym (c.in_err-value-in-8.ensures.same at)); moves = tt })
 
-pub returns-in-err-both : goal.returns-in-err-both
+pub returns-in_err-both-in-8 : goal.returns-in_err-both-in-8
 unfolding stmt_after stmt_fields coded
-returns-in-err-both c = rw c.from-residual-in-err-both.ensures (record { same = λ at. rw (c.in-8.is, sym (c.in-ok-key.ensures.same at), sym (c.in-ok-value.ensures.same at), sym (c.in-err-both.ensures.same at)); moves = tt })
+returns-in_err-both-in-8 c = rw c.from_residual-in_err-both-in-8.ensures (record { same = λ at. rw (c.in-8.is, sym (c.in_ok-key-in-8.ensures.same at), sym (c.in_ok-value-in-8.ensures.same at), sym (c.in_err-both-in-8.ensures.same at)); moves = tt })
 
-pub returns-in-ok-both : goal.returns-in-ok-both
+pub returns-in_ok-both-in-8 : goal.returns-in_ok-both-in-8
 unfolding stmt_after stmt_fields coded
-returns-in-ok-both c = record {
-  same = λ at. rw (c.in-8.is, sym (c.in-ok-key.ensures.same at), sym (c.in-ok-value.ensures.same at), sym (c.in-ok-both.ensures.same at));
-  moves = further (further c.in-ok-key.ensures.moves c.in-ok-value.ensures.moves) c.in-ok-both.ensures.moves;
+returns-in_ok-both-in-8 c = record {
+  same = λ at. rw (c.in-8.is, sym (c.in_ok-key-in-8.ensures.same at), sym (c.in_ok-value-in-8.ensures.same at), sym (c.in_ok-both-in-8.ensures.same at));
+  moves = further (further c.in_ok-key-in-8.ensures.moves c.in_ok-value-in-8.ensures.moves) c.in_ok-both-in-8.ensures.moves;
 }
 
-pub returns-in-err-name : goal.returns-in-err-name
+pub returns-in_err-name-in-9 : goal.returns-in_err-name-in-9
 unfolding stmt_after stmt_fields coded
-returns-in-err-name c = rw c.from-residual-in-err-name.ensures (record { same = λ at. rw (c.in-9.is, sym (c.in-err-name.ensures.same at)); moves = tt })
+returns-in_err-name-in-9 c = rw c.from_residual-in_err-name-in-9.ensures (record { same = λ at. rw (c.in-9.is, sym (c.in_err-name-in-9.ensures.same at)); moves = tt })
 
-pub returns-in-ok-name : goal.returns-in-ok-name
+pub returns-in_ok-name-in-9 : goal.returns-in_ok-name-in-9
 unfolding stmt_after stmt_fields coded
-returns-in-ok-name c = record {
-  same = λ at. rw (c.in-9.is, sym (c.in-ok-name.ensures.same at));
-  moves = c.in-ok-name.ensures.moves;
+returns-in_ok-name-in-9 c = record {
+  same = λ at. rw (c.in-9.is, sym (c.in_ok-name-in-9.ensures.same at));
+  moves = c.in_ok-name-in-9.ensures.moves;
 }
 
-pub returns-in-default : goal.returns-in-default
-returns-in-default c = record { same = λ at. stmt_unknown c.args.byte at _ (λ same. omega arith, (λ same. omega arith, (λ same. omega arith, (λ same. omega arith, (λ same. omega arith, (λ same. omega arith, (λ same. omega arith, (λ same. omega arith, (λ same. omega arith, tt))))))))); moves = tt }
+pub returns-in_default : goal.returns-in_default
+returns-in_default c = record { same = λ at. stmt_unknown c.args.byte at _ (λ same. omega arith, (λ same. omega arith, (λ same. omega arith, (λ same. omega arith, (λ same. omega arith, (λ same. omega arith, (λ same. omega arith, (λ same. omega arith, (λ same. omega arith, tt))))))))); moves = tt }

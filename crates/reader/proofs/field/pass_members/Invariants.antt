@@ -8,5 +8,5 @@ abbrev pub invariant-loop-member : goal.invariant-loop-member
 invariant-loop-member l =
     (l.initial.at ≤ l.at)
     × (l.at ≤ length l.tree)
-    × ((left : ℕ) × (left + l.-member ≡ l.count)
+    × ((left : ℕ) × (left + l._member ≡ l.count)
     × ((at : ℕ) → ended (more_members left at (drop l.at l.tree)) ≡ ended (more_members l.count at (drop l.initial.at l.tree))))

@@ -3,37 +3,37 @@ use Rattle.packing.specs.Unpacking.{access_of}
 use Rattle.reader.proofs.Readings.{further}
 use Rattle.reader.proofs.field.read_access.Goals as goal
 
-pub returns-in-err-key : goal.returns-in-err-key
+pub returns-in_err-key : goal.returns-in_err-key
 unfolding access_of
-returns-in-err-key c =
-    rw (c.from-residual.ensures, c.if-by-key.true)
-    (record { same = λ at. rw (sym (c.in-err-key.ensures.same at)); moves = tt })
+returns-in_err-key c =
+    rw (c.from_residual.ensures, c.if-by_key.true)
+    (record { same = λ at. rw (sym (c.in_err-key.ensures.same at)); moves = tt })
 
-pub returns-then-by-key : goal.returns-then-by-key
+pub returns-then-by_key : goal.returns-then-by_key
 unfolding access_of
-returns-then-by-key c = record {
-  same = λ at. rw (c.if-by-key.true, sym (c.in-ok-key.ensures.same at));
-  moves = c.in-ok-key.ensures.moves;
+returns-then-by_key c = record {
+  same = λ at. rw (c.if-by_key.true, sym (c.in_ok-key.ensures.same at));
+  moves = c.in_ok-key.ensures.moves;
 }
 
-pub returns-in-err-index : goal.returns-in-err-index
+pub returns-in_err-index : goal.returns-in_err-index
 unfolding access_of
-returns-in-err-index c =
-    rw (c.from-residual-in-err-index.ensures, c.if-by-key.false)
-    (record { same = λ at. rw (sym (c.in-err-index.ensures.same at)); moves = tt })
+returns-in_err-index c =
+    rw (c.from_residual-in_err-index.ensures, c.if-by_key.false)
+    (record { same = λ at. rw (sym (c.in_err-index.ensures.same at)); moves = tt })
 
-pub returns-in-err-span : goal.returns-in-err-span
+pub returns-in_err-span : goal.returns-in_err-span
 unfolding access_of
-returns-in-err-span c =
-    rw (c.from-residual-in-err-span.ensures, c.if-by-key.false)
+returns-in_err-span c =
+    rw (c.from_residual-in_err-span.ensures, c.if-by_key.false)
     (record {
-      same = λ at. rw (sym (c.in-ok-index.ensures.same at), sym (c.in-err-span.ensures.same at));
+      same = λ at. rw (sym (c.in_ok-index.ensures.same at), sym (c.in_err-span.ensures.same at));
       moves = tt;
     })
 
 pub returns : goal.returns
 unfolding access_of
 returns c = record {
-  same = λ at. rw (c.if-by-key.false, sym (c.in-ok-index.ensures.same at), sym (c.in-ok-span.ensures.same at));
-  moves = further c.in-ok-index.ensures.moves c.in-ok-span.ensures.moves;
+  same = λ at. rw (c.if-by_key.false, sym (c.in_ok-index.ensures.same at), sym (c.in_ok-span.ensures.same at));
+  moves = further c.in_ok-index.ensures.moves c.in_ok-span.ensures.moves;
 }

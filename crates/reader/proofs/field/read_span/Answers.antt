@@ -3,23 +3,23 @@ use Rattle.packing.specs.Unpacking.{span}
 use Rattle.reader.proofs.Readings.{further}
 use Rattle.reader.proofs.field.read_span.Goals as goal
 
-pub returns-in-err-start : goal.returns-in-err-start
+pub returns-in_err-start : goal.returns-in_err-start
 unfolding span
-returns-in-err-start c =
-    rw c.from-residual.ensures (record { same = λ at. rw (sym (c.in-err-start.ensures.same at)); moves = tt })
+returns-in_err-start c =
+    rw c.from_residual.ensures (record { same = λ at. rw (sym (c.in_err-start.ensures.same at)); moves = tt })
 
-pub returns-in-err-end : goal.returns-in-err-end
+pub returns-in_err-end : goal.returns-in_err-end
 unfolding span
-returns-in-err-end c =
-    rw c.from-residual-in-err-end.ensures
+returns-in_err-end c =
+    rw c.from_residual-in_err-end.ensures
     (record {
-      same = λ at. rw (sym (c.in-ok-start.ensures.same at), sym (c.in-err-end.ensures.same at));
+      same = λ at. rw (sym (c.in_ok-start.ensures.same at), sym (c.in_err-end.ensures.same at));
       moves = tt;
     })
 
 pub returns : goal.returns
 unfolding span
 returns c = record {
-  same = λ at. rw (sym (c.in-ok-start.ensures.same at), sym (c.in-ok-end.ensures.same at));
-  moves = further c.in-ok-start.ensures.moves c.in-ok-end.ensures.moves;
+  same = λ at. rw (sym (c.in_ok-start.ensures.same at), sym (c.in_ok-end.ensures.same at));
+  moves = further c.in_ok-start.ensures.moves c.in_ok-end.ensures.moves;
 }

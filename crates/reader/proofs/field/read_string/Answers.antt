@@ -3,23 +3,23 @@ use Rattle.packing.specs.Unpacking.{string_of}
 use Rattle.reader.proofs.Readings.{further}
 use Rattle.reader.proofs.field.read_string.Goals as goal
 
-pub returns-in-err-span : goal.returns-in-err-span
+pub returns-in_err-span : goal.returns-in_err-span
 unfolding string_of
-returns-in-err-span c =
-    rw c.from-residual.ensures (record { same = λ at. rw (sym (c.in-err-span.ensures.same at)); moves = tt })
+returns-in_err-span c =
+    rw c.from_residual.ensures (record { same = λ at. rw (sym (c.in_err-span.ensures.same at)); moves = tt })
 
-pub returns-in-err-text : goal.returns-in-err-text
+pub returns-in_err-text : goal.returns-in_err-text
 unfolding string_of
-returns-in-err-text c =
-    rw c.from-residual-in-err-text.ensures
+returns-in_err-text c =
+    rw c.from_residual-in_err-text.ensures
     (record {
-      same = λ at. rw (sym (c.in-ok-span.ensures.same at), sym (c.in-err-text.ensures.same at));
+      same = λ at. rw (sym (c.in_ok-span.ensures.same at), sym (c.in_err-text.ensures.same at));
       moves = tt;
     })
 
 pub returns : goal.returns
 unfolding string_of
 returns c = record {
-  same = λ at. rw (sym (c.in-ok-span.ensures.same at), sym (c.in-ok-text.ensures.same at));
-  moves = further c.in-ok-span.ensures.moves c.in-ok-text.ensures.moves;
+  same = λ at. rw (sym (c.in_ok-span.ensures.same at), sym (c.in_ok-text.ensures.same at));
+  moves = further c.in_ok-span.ensures.moves c.in_ok-text.ensures.moves;
 }

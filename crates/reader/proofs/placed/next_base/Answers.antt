@@ -3,14 +3,14 @@ use Rattle.reader.specs.Heads.{base_head, base_spans}
 use Rattle.reader.proofs.Heard.{not_heard, ill_placed}
 use Rattle.reader.proofs.placed.next_base.Goals as goal
 
-pub returns-in-default : goal.returns-in-default
-returns-in-default c = record {
-  same = not_heard c.args.source.now base_spans base_head c.args.tree.now c.args.pos c.in-default.ensures.same;
+pub returns-in_default : goal.returns-in_default
+returns-in_default c = record {
+  same = not_heard c.args.source.now base_spans base_head c.args.tree.now c.args.pos c.in_default.ensures.same;
   moves = omega arith;
 }
 
-pub returns-else-base-placed : goal.returns-else-base-placed
-returns-else-base-placed c = record {
-  same = ill_placed c.args.source.now base_spans base_head c.args.tree.now c.args.pos _ _ c.in-Some.ensures.same c.if-base-placed.ensures;
+pub returns-else-base_placed : goal.returns-else-base_placed
+returns-else-base_placed c = record {
+  same = ill_placed c.args.source.now base_spans base_head c.args.tree.now c.args.pos _ _ c.in-Some.ensures.same c.if-base_placed.ensures;
   moves = omega arith;
 }

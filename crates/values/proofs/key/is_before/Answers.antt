@@ -1,5 +1,3 @@
-use Rattle.std.specs.Cmp.{nat_cmp_total}
-use Rattle.std.specs.Cmp.Lexicographic.{lexical}
 use Rattle.values.proofs.Keys.{compared}
 use Rattle.values.proofs.key.is_before.Goals as goal
 
@@ -7,16 +5,16 @@ pub returns-in-Less : goal.returns-in-Less
 returns-in-Less c =
     let a = c.args.a.now in
     let b = c.args.b.now in
-    compared a b c.cmp.result ((lexical nat_cmp_total).says a b c.cmp.result c.cmp.ensures) c.in-Less.is
+    compared a b c.cmp.result c.cmp.ensures c.in-Less.is
 
 pub returns-in-Equal : goal.returns-in-Equal
 returns-in-Equal c =
     let a = c.args.a.now in
     let b = c.args.b.now in
-    compared a b c.cmp.result ((lexical nat_cmp_total).says a b c.cmp.result c.cmp.ensures) c.in-Equal.is
+    compared a b c.cmp.result c.cmp.ensures c.in-Equal.is
 
 pub returns-in-Greater : goal.returns-in-Greater
 returns-in-Greater c =
     let a = c.args.a.now in
     let b = c.args.b.now in
-    compared a b c.cmp.result ((lexical nat_cmp_total).says a b c.cmp.result c.cmp.ensures) c.in-Greater.is
+    compared a b c.cmp.result c.cmp.ensures c.in-Greater.is

@@ -3,9 +3,9 @@ use Rattle.meaning.specs.Charge.{Charge}
 use Rattle.values.proofs.Plains.{plain_cut, plain_too_deep, plain_costs, plain_text}
 use Rattle.values.proofs.measuring.measure_plain.Goals as goal
 
-pub returns-in-default : goal.returns-in-default
-returns-in-default c = record {
-  same = plain_cut c.args.bytes.now c.args.pos c.args.levels c.in-default.ensures.same;
+pub returns-in_default : goal.returns-in_default
+returns-in_default c = record {
+  same = plain_cut c.args.bytes.now c.args.pos c.args.levels c.in_default.ensures.same;
   moves = c.requires;
 }
 
@@ -20,8 +20,8 @@ returns c =
     let some : c.args.levels ≡ suc (c.args.levels - 1) = omega arith in
     let ahead = c.in-Some.ensures.moves in
     let text = plain_text c.args.bytes.now c.args.pos c.args.levels _ c.in-Some.next c.in-Some.ensures.same ahead in
-    let same = ap (λ (x : Charge). x.bytes) c.of-plain.ensures.same in
+    let same = ap (λ (x : Charge). x.bytes) c.of_plain.ensures.same in
     record {
-      same = plain_costs c.args.bytes.now c.args.pos c.args.levels _ c.in-Some.next c.in-Some.ensures.same (c.args.levels - 1) some _ c.of-plain.ensures.same;
+      same = plain_costs c.args.bytes.now c.args.pos c.args.levels _ c.in-Some.next c.in-Some.ensures.same (c.args.levels - 1) some _ c.of_plain.ensures.same;
       moves = (record { inside = omega arith; values = omega arith; parts = omega arith; text = omega arith }, omega arith);
     }

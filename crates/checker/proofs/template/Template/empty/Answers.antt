@@ -5,6 +5,6 @@ use Rattle.packing.specs.Reader.{byte, coded, command}
 use Rattle.packing.specs.Unpacking.{answer, scope_within, statements, unpack}
 use Rattle.checker.proofs.template.Template.empty.Goals as goal
 
-pub invariant-of-result : goal.invariant-of-result
+pub invariant_of-result : goal.invariant_of-result
 unfolding completes well_formed byte coded command answer scope_within statements unpack
-invariant-of-result c = (refl, tt)
+invariant_of-result c = record { ok = refl }
