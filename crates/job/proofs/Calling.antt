@@ -1,9 +1,6 @@
 -- A line read step by step.
 use Rattle.std.proofs.Common.{◌≡◌, ℕ, ◌<◌, ◌≤◌, Bool, true, false, eqb, List, [], ◌∷◌, ◌++◌, length, get_or, take, drop, Ok, Err, codes, Decides, Result, sym, refl, ap, ◌∙◌, arith, drop_of_length-le, rules, ne_eqb}
-use borrow.Author.Tests.{clash, eqb-false}
-use Rattle.std.proofs.lemmas.Slice.Eq.{slice_eq-Decides, compares_Decides}
-use Rattle.std.specs.Str.{bytes_eq as same_text}
-use Rattle.std.specs.Cmp.Lexicographic.{Matches}
+use borrow.Author.Tests.{eqb-false}
 use Rattle.meaning.specs.Or.{Or, fails, gives}
 use Rattle.job.specs.declared.word.BadLine.{BadLine}
 use Rattle.job.specs.declared.word.BadLine.TheVariants.{NoCall, MoreWords}
@@ -12,9 +9,7 @@ use Rattle.job.specs.declared.word.Failure.TheVariants.{Memory, Bad}
 use Rattle.job.specs.declared.line.Line.{Line}
 use Rattle.job.specs.Calls.{Call, passed_over, add, space, line_end, added, read_off, is_add, call_of, Asks, Skips}
 use Rattle.job.specs.Words.{Told, Reads, word}
-use Rattle.reader.proofs.Texts.{not_true}
 use Rattle.job.proofs.Wording.{here}
-use Rattle.std.proofs.lemmas.Bool.Decides.{Decides-eqb}
 
 pub nothing_asked : (line : List ℕ) → length line ≡ 0 → call_of line ≡ gives passed_over
 unfolding call_of
@@ -34,15 +29,6 @@ pub asks_to_add : (line : List ℕ) → 0 < length line → (get_or line 0 0 ≡
 unfolding call_of
 asks_to_add [] h other = absurd (omega arith)
 asks_to_add (c ∷ s) h other = rw (ne_eqb c 35 other)
-
--- whether the line begins so, as code tests it
-pub begins : (p s : List ℕ) (r : Bool) → Matches (λ (a b : ℕ) (t : Bool). Decides t (a ≡ b)) p s r → same_text p s ≡ r
-begins p s r matches =
-    by r (slice_eq-Decides Decides-eqb p s r matches)
-  where
-    by : (r : Bool) → Decides r (p ≡ s) → same_text p s ≡ r
-    by true d = (compares_Decides same_text (search rules) p s).1 (d.0 refl)
-    by false d = not_true (same_text p s) (λ e. clash (d.1 ((compares_Decides same_text (search rules) p s).0 e)))
 
 module _ (line : List ℕ) (is : call_of line ≡ read_off (added (drop 4 line))) where
   pub name_fails : {X : Type 0} (means : X → List ℕ) (e : Failure) → Told means line 4 word (Err e) → Asks line (Err e)

@@ -4,4 +4,4 @@ use Rattle.job.proofs.lines.put_mark.Goals as goal
 
 pub returns : goal.returns
 returns c =
-    then_wrote c.put-quoted.result (adds_same (c.as-bytes.ensures.value ∙ c.in-ok-place.ensures.ok) c.in-ok-put.ensures.adds) c.put-quoted.ensures
+    then_wrote c.put_quoted.result (adds_same (c.as_bytes.ensures.value ∙ c.in_ok-place.ensures.ok) c.in_ok-put.ensures.adds) c.put_quoted.ensures

@@ -9,8 +9,8 @@ use Rattle.job.specs.Outline.{outline_scope}
 use Rattle.job.proofs.Writing.{adds_same}
 use Rattle.job.proofs.outline.outline.Goals as goal
 
-pub outline-scope-requires : goal.outline-scope-requires
-outline-scope-requires c =
+pub outline_scope-requires : goal.outline_scope-requires
+outline_scope-requires c =
     let source = c.source-source.result.now in
     let tree = c.tree-tree.result.now in
     let good : unpacks source tree ≡ true =
@@ -30,4 +30,4 @@ returns c = λ scope e.
     ap (λ (s : List ℕ). unpack s tree) c.source-source.ensures.bytes ∙ ap (λ (t : List ℕ). unpack (source_of c.args.template.now) t) c.tree-tree.ensures.bytes ∙ e in
     let whole = whole_there source tree scope here in
     let there : ScopeThere source tree 0 = record { scope = scope; fits = whole.fits; stands = whole.stands } in
-    record { adds = adds_same (ap (λ (s : List ℕ). outline_scope s 1 scope) c.source-source.ensures.bytes) (c.in-ok--end.ensures there).wrote.adds }
+    record { adds = adds_same (ap (λ (s : List ℕ). outline_scope s 1 scope) c.source-source.ensures.bytes) (c.in_ok-_end.ensures there).wrote.adds }

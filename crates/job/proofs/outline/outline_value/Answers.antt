@@ -5,13 +5,13 @@ use Rattle.job.proofs.Writing.{adds_same}
 use Rattle.job.proofs.outline.outline_value.Goals as goal
 
 pub unreachable-requires : goal.unreachable-requires
-unreachable-requires c = value_known c.args.tree.now c.args.pos c.requires c.in-default.ensures.same
+unreachable-requires c = value_known c.args.tree.now c.args.pos c.requires c.in_default.ensures.same
 
 pub returns : goal.returns
 returns c = λ w.
     let headed = value_headed c.args.tree.now c.args.pos w _ _ c.in-Some.ensures.moves.1 c.in-Some.ensures.same in
     let ends = headed.ends in
     record {
-      wrote = record { adds = adds_same (ap (value_line c.args.depth) headed.head) c.in-ok-put-value-line.ensures.adds };
+      wrote = record { adds = adds_same (ap (value_line c.args.depth) headed.head) c.in_ok-put_value_line.ensures.adds };
       ends = omega arith;
     }

@@ -8,9 +8,9 @@ pub loop-at-init : goal.loop-at-init
 loop-at-init c =
     (c.requires, ap (λ (s : List ℕ). behind s (hex (drop c.args.pos c.args.line.now))) c.new-bytes.ensures.items ∙ behind_none (hex (drop c.args.pos c.args.line.now)))
 
-pub returns-in-default : goal.returns-in-default
-returns-in-default c =
-    hex_bad c.args.line.now c.loop-at.at _ _ c.loop-at.invariant.1 c.loop-at-test.true c.if-line-at-ne32.true (sym c.in-default.ensures.number)
+pub returns-in_default : goal.returns-in_default
+returns-in_default c =
+    hex_bad c.args.line.now c.loop-at.at _ _ c.loop-at.invariant.1 c.loop-at-test.true c.if-line-at-ne32.true (sym c.in_default.ensures.number)
 
 pub returns-then-at-line : goal.returns-then-at-line
 returns-then-at-line c =
@@ -26,17 +26,17 @@ returns-then-at-line c =
           hex_odd line at _ _ c.loop-at.invariant.1 c.loop-at-test.true c.if-line-at-ne32.true _ (sym c.in-Some.ensures.number) next w.if-line-at-eq32.true
     ]
 
-pub returns-in-default-digit-of : goal.returns-in-default-digit-of
-returns-in-default-digit-of c =
+pub returns-in_default-digit_of : goal.returns-in_default-digit_of
+returns-in_default-digit_of c =
     let differs = c.if-at-line.false in
-    hex_bad_second c.args.line.now c.loop-at.at _ _ c.loop-at.invariant.1 c.loop-at-test.true c.if-line-at-ne32.true _ (sym c.in-Some.ensures.number) (omega arith) c.if-line-at-eq32.false (sym c.in-default-digit-of.ensures.number)
+    hex_bad_second c.args.line.now c.loop-at.at _ _ c.loop-at.invariant.1 c.loop-at-test.true c.if-line-at-ne32.true _ (sym c.in-Some.ensures.number) (omega arith) c.if-line-at-eq32.false (sym c.in_default-digit_of.ensures.number)
 
 pub loop-at-preserved : goal.loop-at-preserved
 loop-at-preserved c =
     let differs = c.if-at-line.false in (
       omega arith,
-      ap (λ (s : List ℕ). behind s (hex (drop (c.loop-at.at + 2) c.args.line.now))) c.in-ok-push.ensures.items
-          ∙ hex_more c.args.line.now c.loop-at.at _ _ c.loop-at.invariant.1 c.loop-at-test.true c.if-line-at-ne32.true _ (sym c.in-Some.ensures.number) (omega arith) c.if-line-at-eq32.false _ (sym c.in-Some-digit-of.ensures.number),
+      ap (λ (s : List ℕ). behind s (hex (drop (c.loop-at.at + 2) c.args.line.now))) c.in_ok-push.ensures.items
+          ∙ hex_more c.args.line.now c.loop-at.at _ _ c.loop-at.invariant.1 c.loop-at-test.true c.if-line-at-ne32.true _ (sym c.in-Some.ensures.number) (omega arith) c.if-line-at-eq32.false _ (sym c.in-Some-digit_of.ensures.number),
     )
 
 pub returns : goal.returns

@@ -11,7 +11,7 @@ loop-at-init c =
 pub loop-at-preserved-then-line-at-ne92 : goal.loop-at-preserved-then-line-at-ne92
 loop-at-preserved-then-line-at-ne92 c = (
   omega arith,
-  ap (λ (s : List ℕ). behind s (unquote (drop (c.loop-at.at + 1) c.args.line.now))) c.in-ok-push.ensures.items
+  ap (λ (s : List ℕ). behind s (unquote (drop (c.loop-at.at + 1) c.args.line.now))) c.in_ok-push.ensures.items
       ∙ quote_plain c.args.line.now c.loop-at.at _ _ c.loop-at.invariant.1 c.loop-at-test.true c.if-line-at-ne34.true c.if-line-at-ne92.true,
 )
 
@@ -19,16 +19,16 @@ pub returns-then-at-line : goal.returns-then-at-line
 returns-then-at-line c =
     quote_cut c.args.line.now c.loop-at.at _ _ c.loop-at.invariant.1 c.loop-at-test.true c.if-line-at-ne34.true c.if-line-at-ne92.false c.if-at-line.true
 
-pub returns-in-default : goal.returns-in-default
-returns-in-default c =
+pub returns-in_default : goal.returns-in_default
+returns-in_default c =
     let differs = c.if-at-line.false in
-    quote_bad c.args.line.now c.loop-at.at _ _ c.loop-at.invariant.1 c.loop-at-test.true c.if-line-at-ne34.true c.if-line-at-ne92.false (omega arith) (sym c.in-default.ensures)
+    quote_bad c.args.line.now c.loop-at.at _ _ c.loop-at.invariant.1 c.loop-at-test.true c.if-line-at-ne34.true c.if-line-at-ne92.false (omega arith) (sym c.in_default.ensures)
 
 pub loop-at-preserved : goal.loop-at-preserved
 loop-at-preserved c =
     let differs = c.if-at-line.false in (
       omega arith,
-      ap (λ (s : List ℕ). behind s (unquote (drop (c.loop-at.at + 2) c.args.line.now))) c.in-ok-push-2.ensures.items
+      ap (λ (s : List ℕ). behind s (unquote (drop (c.loop-at.at + 2) c.args.line.now))) c.in_ok-push-2.ensures.items
           ∙ quote_more c.args.line.now c.loop-at.at _ _ c.loop-at.invariant.1 c.loop-at-test.true c.if-line-at-ne34.true c.if-line-at-ne92.false (omega arith) _ (sym c.in-Some.ensures),
     )
 

@@ -20,13 +20,13 @@ returns-in-45 c =
 pub returns-in-34 : goal.returns-in-34
 returns-in-34 c =
     let differs = c.if-pos-line.false in
-    told_as vec_items c.args.line.now c.args.pos (c.args.pos + 1) word unquote c.read-quoted.result
+    told_as vec_items c.args.line.now c.args.pos (c.args.pos + 1) word unquote c.read_quoted.result
     (word_quote c.args.line.now c.args.pos (omega arith) c.in-34.is)
-    c.read-quoted.ensures
+    c.read_quoted.ensures
 
-pub returns-in-default : goal.returns-in-default
-returns-in-default c =
+pub returns-in_default : goal.returns-in_default
+returns-in_default c =
     let differs = c.if-pos-line.false in
-    told_as vec_items c.args.line.now c.args.pos c.args.pos word hex c.read-hex.result
+    told_as vec_items c.args.line.now c.args.pos c.args.pos word hex c.read_hex.result
     (word_hex c.args.line.now c.args.pos (omega arith) (λ same. omega arith) (λ same. omega arith) (λ same. omega arith))
-    c.read-hex.ensures
+    c.read_hex.ensures
