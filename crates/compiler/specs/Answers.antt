@@ -5,8 +5,8 @@ use Rattle.meaning.specs.declared.fault.Cause.TheVariants.{TooManyInstructions}
 use Rattle.meaning.specs.FaultRecords.{fault_of}
 use Rattle.program.specs.Program as program
 use Rattle.compiler.specs.declared.instr.Instr.{Instr}
-use Rattle.compiler.specs.declared.program.CompileError.{CompileError}
-use Rattle.compiler.specs.declared.program.CompileError.TheVariants.{Fault, Short}
+use Rattle.compiler.specs.declared.programs.CompileError.{CompileError}
+use Rattle.compiler.specs.declared.programs.CompileError.TheVariants.{Fault, Short}
 use Rattle.compiler.specs.Records.{Mean}
 
 abbrev pub most_instructions : ℕ

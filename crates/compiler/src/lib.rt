@@ -4,5 +4,5 @@
 
 mod compile;
 pub mod instr;
-pub mod program;
+pub mod programs;
 mod writing;

@@ -2,7 +2,7 @@
 
 use checker::template::Template;
 use compiler::instr::{Instr, Op};
-use compiler::program::{CompileError, compile};
+use compiler::programs::{CompileError, compile};
 use std::alloc::{AllocError, Global};
 
 /// The span of `a`.

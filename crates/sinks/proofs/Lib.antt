@@ -1,5 +1,3 @@
-mod Gate
-pub mod SinkLaws
 mod Feeds
 mod Pages
 mod Turns

@@ -7,7 +7,7 @@ use Rattle.std.proofs.lemmas.Slice.{take-put_mid}
 use Rattle.std.proofs.lemmas.Bool.{cond-true, cond-false}
 use Rattle.meaning.specs.Hosts.{Taken, took, stopped}
 use Rattle.sinks.specs.Sinks.{page}
-use Rattle.sinks.proofs.SinkLaws.{page_is_lawful}
+use Rattle.sinks.specs.SinkLaws.{page_is_lawful}
 use Rattle.sinks.specs.States.{written}
 
 module _ (memory piece : List ℕ) (used : ℕ) where

@@ -1,6 +1,6 @@
 ghost use Rattle.std.specs.Prelude.{◌≡◌, suc, ◌-◌, ◌^◌, min};
 ghost use Rattle.sinks.specs.Sinks.{limited};
-ghost use Rattle.sinks.proofs.SinkLaws.{limited_is_lawful};
+ghost use Rattle.sinks.specs.SinkLaws.{limited_is_lawful};
 ghost use Rattle.sinks.specs.States.{up_to};
 
 use crate::measure::{Bytes, Lines, Measure};

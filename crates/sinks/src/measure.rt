@@ -1,7 +1,7 @@
 ghost use Rattle.std.specs.Prelude.{◌≡◌, ℕ, ◌≤◌, List, length};
 ghost use Rattle.meaning.specs.Sinks.{line_feeds};
 ghost use Rattle.sinks.specs.Sinks.{Additive};
-ghost use Rattle.sinks.proofs.SinkLaws.{lines_are_additive, bytes_are_additive};
+ghost use Rattle.sinks.specs.SinkLaws.{lines_are_additive, bytes_are_additive};
 
 /// How much of a limit a piece uses up.
 pub trait Measure {

@@ -1,6 +1,6 @@
 ghost use Rattle.std.specs.Prelude.{◌≡◌};
 ghost use Rattle.sinks.specs.Sinks.{page as page-sink};
-ghost use Rattle.sinks.proofs.SinkLaws.{page_is_lawful};
+ghost use Rattle.sinks.specs.SinkLaws.{page_is_lawful};
 ghost use Rattle.sinks.specs.States.{written};
 
 use crate::sink::Sink;

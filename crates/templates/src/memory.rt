@@ -10,7 +10,7 @@ ghost use Rattle.templates.specs.Writing.{Counted, Programmed, written};
 
 use checker::template::Template;
 use compiler::instr::Instr;
-use compiler::program::{CompileError, compile};
+use compiler::programs::{CompileError, compile};
 use meaning::fault::Fault;
 
 /// Writes the piece over what stands from `at` on.

@@ -8,5 +8,5 @@ use Rattle.decoder.proofs.spans.members_span.Given as goal
 -- the members still to come give the last one
 abbrev pub invariant-loop-member : goal.invariant-loop-member
 invariant-loop-member l =
-    (left : ℕ) × (left + l.-member ≡ l.members.count)
+    (left : ℕ) × (left + l._member ≡ l.members.count)
     × (members_span (decoded l.members.count l.members.bytes.now) ≡ some (combine l.first.span (last_member l.last (decoded left (drop l.at l.members.bytes.now))).span))

@@ -10,17 +10,17 @@ loop-piece-preserved g c =
     let s = g.S.Sink in
     c.loop-piece.invariant
     ∙ turn_taken s.sink (s.state c.loop-piece.sink) (s.state c.offer.new.self) c.args.pieces.now c.loop-piece.piece-index _
-    c.loop-piece-test.true c.in-ok-offer.ensures
+    c.loop-piece-test.true c.in_ok-offer.ensures
 
-pub returns-in-err-offer : goal.returns-in-err-offer
-returns-in-err-offer g c =
+pub returns-in_err-offer : goal.returns-in_err-offer
+returns-in_err-offer g c =
     let s = g.S.Sink in
     let n = s.state c.offer.new.self in
-    let p = err_from_is_err_and c.from-residual.result c.from-residual.ensures.1 in
-    told_stop s.sink s.lawful _ n _ c.from-residual.result _ _
+    let p = err_from_is_err_and c.from_residual.result c.from_residual.ensures.1 in
+    told_stop s.sink s.lawful _ n _ c.from_residual.result _ _
     (c.loop-piece.invariant
     ∙ turn_stopped s.sink (s.state c.loop-piece.sink) n c.args.pieces.now c.loop-piece.piece-index _
-    c.loop-piece-test.true _ c.in-err-offer.ensures)
+    c.loop-piece-test.true _ c.in_err-offer.ensures)
     p.1 p.2
 
 pub returns : goal.returns

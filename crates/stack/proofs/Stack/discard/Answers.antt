@@ -8,5 +8,5 @@ returns g c =
     let slots = c.args.self.now.slots.now in
     record {
       kept = record { same_room = refl; lender = refl };
-      left = ap (newest_first slots) (omega (arith, c.saturating-sub-self.ensures)) ∙ sym (without slots c.args.self.now.len c.args.n c.args.self.now.inside);
+      left = ap (newest_first slots) (omega (arith, c.saturating_sub-self.ensures)) ∙ sym (without slots c.args.self.now.len c.args.n c.args.self.now.inside);
     }

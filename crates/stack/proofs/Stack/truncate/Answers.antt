@@ -9,5 +9,5 @@ returns g c =
     record {
       kept = c.discard.ensures.kept;
       left = c.discard.ensures.left
-          ∙ ap (λ n. drop n (entries s)) (omega (arith, c.saturating-sub.ensures, length_newest s.slots.now s.len s.inside));
+          ∙ ap (λ n. drop n (entries s)) (omega (arith, c.saturating_sub.ensures, length_newest s.slots.now s.len s.inside));
     }

@@ -4,7 +4,7 @@ use lib.Dec.{leb-zero}
 use Rattle.meaning.specs.Hosts.{Sink, Lawful, Taken, took, stopped, Alike, after, AtMost}
 use Rattle.meaning.specs.Sinks.{fits, counter, Counts, line_feeds, level_above}
 use Rattle.sinks.specs.Sinks.{page, Written, Limited, counted, limited, Additive}
-use Rattle.sinks.proofs.Gate.{gated_two}
+use Rattle.sinks.specs.Gate.{gated_two}
 
 one_more : (x : Bool) (m n : ℕ) → cond x (suc (m + n)) (m + n) ≡ cond x (suc m) m + n
 one_more true m n = sym (suc-add m n)

@@ -7,7 +7,7 @@ use Rattle.program.specs.Program as program
 use Rattle.checker.specs.Templates.{source_of}
 use Rattle.compiler.specs.Answers.{Holds}
 use Rattle.compiler.proofs.Wholes.{whole_over, whole_room, whole_counts, whole_holds}
-use Rattle.compiler.proofs.program.compile.Goals as goal
+use Rattle.compiler.proofs.programs.compile.Goals as goal
 
 pub compile_scope-counted-requires : goal.compile_scope-counted-requires
 compile_scope-counted-requires c =
