@@ -6,26 +6,28 @@ use Rattle.store.proofs.Cells.{sound_at}
 use Rattle.store.proofs.Stores.{room, store_extended, puts_added, text_count}
 use Rattle.store.proofs.memory.Store.add.Goals as goal
 
-pub invariant-of-self : goal.invariant-of-self
-invariant-of-self c =
+pub invariant_of-self : goal.invariant_of-self
+invariant_of-self c =
     let s = c.args.self.now in
     let bytes = c.args.bytes.now in
-    let old : take s.tally.now.bytes c.write-at.new.text ≡ text_of s =
-    sym (take-take s.tally.now.bytes (s.tally.now.bytes + length bytes) c.write-at.new.text (omega arith))
-    ∙ ap (take s.tally.now.bytes) c.write-at.ensures
+    let old : take s.tally.now.bytes c.write_at.new.text ≡ text_of s =
+    sym (take-take s.tally.now.bytes (s.tally.now.bytes + length bytes) c.write_at.new.text (omega arith))
+    ∙ ap (take s.tally.now.bytes) c.write_at.ensures
     ∙ take_at (text_of s) bytes _ (text_count s) in
-    (sound_at {cs = cells_of s} old refl s.sound, (s.cells_fit, ((omega arith, s.bytes_fit.1), tt)))
+    record { sound = sound_at {cs = cells_of s} old refl s.sound; cells_fit = s.cells_fit; bytes_fit = (omega arith, s.bytes_fit.1) }
 
-pub invariant-of-self-2 : goal.invariant-of-self-2
-invariant-of-self-2 c =
+pub invariant_of-self-2 : goal.invariant_of-self-2
+invariant_of-self-2 c =
     let s = c.args.self.now in
     let bytes = c.args.bytes.now in
     let free = room s (cell_and_text bytes) c.requires.room in
     let top : s.tally.now.cells < length s.cells.now = omega (arith, free.cells) in
-    let e = store_extended s c.args.cell bytes c.requires.fit in (
-      sound_at c.write-at.ensures (take_more_set s.cells.now s.tally.now.cells c.args.cell top) e.sound,
-      ((simp length-set (omega (arith, free.cells)), free.few_cells), ((omega (arith, free.bytes), free.few_bytes), tt)),
-    )
+    let e = store_extended s c.args.cell bytes c.requires.fit in
+    record {
+      sound = sound_at c.write_at.ensures (take_more_set s.cells.now s.tally.now.cells c.args.cell top) e.sound;
+      cells_fit = (simp length-set (omega (arith, free.cells)), free.few_cells);
+      bytes_fit = (omega (arith, free.bytes), free.few_bytes);
+    }
 
 pub returns : goal.returns
 returns c =
@@ -38,7 +40,7 @@ returns c =
       memory = record { cells = refl; text = refl; tally = refl; cells_long = length-set s.cells.now s.tally.now.cells c.args.cell; text_long = omega arith };
       paid = refl;
       cells = take_more_set s.cells.now s.tally.now.cells c.args.cell top;
-      text = c.write-at.ensures;
+      text = c.write_at.ensures;
       fit = c.requires.fit;
     }
     refl

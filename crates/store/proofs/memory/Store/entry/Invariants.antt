@@ -8,4 +8,4 @@ use Rattle.store.proofs.memory.Store.entry.Given as goal
 abbrev pub invariant-loop-passed : goal.invariant-loop-passed
 invariant-loop-passed l =
     EntryKnown l.self (Some l.here)
-    × (some (entry_shown l.self l.here) ≡ entry_at (value l.self l.r) l.-passed)
+    × (some (entry_shown l.self l.here) ≡ entry_at (value l.self l.r) l._passed)

@@ -3,8 +3,8 @@ use Rattle.store.proofs.Cells.{sound_at}
 use Rattle.store.proofs.Stores.{freed}
 use Rattle.store.proofs.memory.Store.free_to.Goals as goal
 
-pub invariant-of-self : goal.invariant-of-self
-invariant-of-self c =
+pub invariant_of-self : goal.invariant_of-self
+invariant_of-self c =
     let s = c.args.self.now in
     let cells = take-take c.args.mark.cells s.tally.now.cells s.cells.now c.requires.cells_low in
     let text = take-take c.args.mark.bytes s.tally.now.bytes s.text.now c.requires.bytes_low in (

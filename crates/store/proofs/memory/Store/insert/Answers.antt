@@ -11,19 +11,19 @@ add-requires c =
     let s = c.args.self.now in
     let key = c.args.key.now in
     let front = c.in-At.front in
-    let span = c.next-span-span.ensures in
+    let span = c.next_span-span.ensures in
     let at = span.0 ∙ sym (text_count s) in
-    let low : front < (used s).cells = known_at s c.in-At.is c.requires.map-known in
-    let same = top_span (text_of s) key c.next-span-span.result at span.1 in
+    let low : front < (used s).cells = known_at s c.in-At.is c.requires.map_known in
+    let same = top_span (text_of s) key c.next_span-span.result at span.1 in
     record {
-      room = sym c.has-room.ensures ∙ c.if-not-has-room.false;
-      fit = fits_insert (text_of s ++ key) (used s).cells (values_of s) front c.next-span-span.result c.args.part c.size-with-len.result front false record {
+      room = sym c.has_room.ensures ∙ c.if-not-has_room.false;
+      fit = fits_insert (text_of s ++ key) (used s).cells (values_of s) front c.next_span-span.result c.args.part c.size_with-len.result front false record {
         low = low;
         jump_low = low;
-        short = omega (arith, c.size-with-len.ensures.short);
-        part_low = c.requires.part-known;
-        key_inside = top_inside (text_of s) key c.next-span-span.result at span.1;
-        counted = subst (λ (k : Text). has_entries c.size-with-len.result (inserted (get_or (values_of s) front none) k (value s c.args.part)) ≡ true) (sym same) (c.size-with-len.ensures.counts (value s c.args.part));
+        short = omega (arith, c.size_with-len.ensures.short);
+        part_low = c.requires.part_known;
+        key_inside = top_inside (text_of s) key c.next_span-span.result at span.1;
+        counted = subst (λ (k : Text). has_entries c.size_with-len.result (inserted (get_or (values_of s) front none) k (value s c.args.part)) ≡ true) (sym same) (c.size_with-len.ensures.counts (value s c.args.part));
         last = refl;
       };
     }
@@ -32,8 +32,8 @@ pub returns : goal.returns
 returns c =
     let s = c.args.self.now in
     let key = c.args.key.now in
-    let span = c.next-span-span.ensures in
-    let same = top_span (text_of s) key c.next-span-span.result (span.0 ∙ sym (text_count s)) span.1 in (
-      sym c.has-room.ensures ∙ c.if-not-has-room.false,
+    let span = c.next_span-span.ensures in
+    let same = top_span (text_of s) key c.next_span-span.result (span.0 ∙ sym (text_count s)) span.1 in (
+      sym c.has_room.ensures ∙ c.if-not-has_room.false,
       added_as (ap (λ (k : Text). inserted (get_or (values_of s) c.in-At.front none) k (value s c.args.part)) same ∙ ap (λ (f : Value). inserted f key (value s c.args.part)) (sym (at_cell s c.in-At.is))) c.add.ensures,
     )

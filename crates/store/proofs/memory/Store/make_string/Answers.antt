@@ -8,16 +8,16 @@ use Rattle.store.proofs.memory.Store.make_string.Goals as goal
 pub add-requires : goal.add-requires
 add-requires c =
     let s = c.args.self.now in
-    let span = c.next-span-span.ensures in
+    let span = c.next_span-span.ensures in
     record {
-      room = sym c.has-room.ensures ∙ c.if-has-room.true;
-      fit = top_inside (text_of s) c.args.bytes.now c.next-span-span.result (span.0 ∙ sym (text_count s)) span.1;
+      room = sym c.has_room.ensures ∙ c.if-has_room.true;
+      fit = top_inside (text_of s) c.args.bytes.now c.next_span-span.result (span.0 ∙ sym (text_count s)) span.1;
     }
 
-pub returns-then-has-room : goal.returns-then-has-room
-returns-then-has-room c =
+pub returns-then-has_room : goal.returns-then-has_room
+returns-then-has_room c =
     let s = c.args.self.now in
-    let span = c.next-span-span.ensures in (
-      sym c.has-room.ensures ∙ c.if-has-room.true,
-      added_as (ap string (top_span (text_of s) c.args.bytes.now c.next-span-span.result (span.0 ∙ sym (text_count s)) span.1)) c.add.ensures,
+    let span = c.next_span-span.ensures in (
+      sym c.has_room.ensures ∙ c.if-has_room.true,
+      added_as (ap string (top_span (text_of s) c.args.bytes.now c.next_span-span.result (span.0 ∙ sym (text_count s)) span.1)) c.add.ensures,
     )

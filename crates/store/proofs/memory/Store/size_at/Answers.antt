@@ -11,16 +11,16 @@ returns-in-String c =
     let kind = ap kind_of shown.0 in
     record {
       same = sym (ap size_of shown.0 ∙ length_span (text_of s) c.in-String.span shown.1);
-      list-short = λ h. let z : ◌≡◌ {A = ℕ} 0 1 = cc in absurd (omega arith);
-      map-short = λ h. let z : ◌≡◌ {A = ℕ} 0 1 = cc in absurd (omega arith);
+      list_short = λ h. let z : ◌≡◌ {A = ℕ} 0 1 = cc in absurd (omega arith);
+      map_short = λ h. let z : ◌≡◌ {A = ℕ} 0 1 = cc in absurd (omega arith);
     }
 
 pub returns-in-Push : goal.returns-in-Push
 returns-in-Push c =
     let p = c.in-Push.ensures in
-    record { same = push_size p; list-short = λ h. p.short; map-short = λ h. p.short }
+    record { same = push_size p; list_short = λ h. p.short; map_short = λ h. p.short }
 
 pub returns-in-Insert : goal.returns-in-Insert
 returns-in-Insert c =
     let p = c.in-Insert.ensures in
-    record { same = insert_size p; list-short = λ h. p.short; map-short = λ h. p.short }
+    record { same = insert_size p; list_short = λ h. p.short; map_short = λ h. p.short }

@@ -6,5 +6,5 @@ pub returns : goal.returns
 returns c =
     let text = c.args.text.now in
     let bytes = c.args.bytes.now in
-    take-put_mid c.args.start _ text c.copy-from-slice.new.self (c.args.start + length bytes) (omega (arith, ap length c.copy-from-slice.ensures.after)) (omega (arith, c.requires))
-    ∙ ap (λ ys. take c.args.start text ++ ys) c.copy-from-slice.ensures.after
+    take-put_mid c.args.start _ text c.copy_from_slice.new.self (c.args.start + length bytes) (omega (arith, ap length c.copy_from_slice.ensures.after)) (omega (arith, c.requires))
+    ∙ ap (λ ys. take c.args.start text ++ ys) c.copy_from_slice.ensures.after
