@@ -9,4 +9,4 @@ returns c =
     let at = c.args.at in
     let end = c.args.end in
     let whole : at + (end - at) ≡ end = omega arith in
-    ap₂ (λ (x y : List Entry). take at entries ++ (x ++ y)) c.rotate-left.ensures.after (drop-drop (end - at) at entries ∙ ap (λ n. drop n entries) whole)
+    ap₂ (λ (x y : List Entry). take at entries ++ (x ++ y)) c.rotate_left.ensures.after (drop-drop (end - at) at entries ∙ ap (λ n. drop n entries) whole)

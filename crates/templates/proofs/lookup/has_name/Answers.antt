@@ -8,5 +8,5 @@ use Rattle.templates.proofs.lookup.has_name.Goals as goal
 pub returns : goal.returns
 returns c =
     let name = c.args.name.now in
-    let bytes = c.as-bytes.result.now in
-    same_from_decides _ _ (slice_eq-Decides Decides-eqb _ _ c.eq.result c.eq.ensures) (bytes_decides name bytes) ∙ ap (same_text name) c.as-bytes.ensures
+    let bytes = c.as_bytes.result.now in
+    same_from_decides _ _ (slice_eq-Decides Decides-eqb _ _ c.eq.result c.eq.ensures) (bytes_decides name bytes) ∙ ap (same_text name) c.as_bytes.ensures

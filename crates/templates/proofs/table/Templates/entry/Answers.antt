@@ -3,8 +3,8 @@ use Rattle.std.proofs.lemmas.List.{get_or-take}
 use Rattle.templates.proofs.Indexed.{used, counted}
 use Rattle.templates.proofs.table.Templates.entry.Goals as goal
 
-pub offset-bounds-self-i : goal.offset-bounds-self-i
-offset-bounds-self-i c = omega (arith, counted c.args.self.now)
+pub offset_bounds-self-i : goal.offset_bounds-self-i
+offset_bounds-self-i c = omega (arith, counted c.args.self.now)
 
 pub listed : goal.listed
 listed c = omega (arith, counted c.args.self.now)

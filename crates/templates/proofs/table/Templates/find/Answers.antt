@@ -8,5 +8,5 @@ pub returns : goal.returns
 returns c =
     let t = c.args.self.now in
     let name = c.args.name.now in
-    let found = c.index-of.result in
-    finds t name found (subst (λ n. Located name (take n t.entries) found) (sub-zero t.count) c.index-of.ensures)
+    let found = c.index_of.result in
+    finds t name found (subst (λ n. Located name (take n t.entries) found) (sub-zero t.count) c.index_of.ensures)

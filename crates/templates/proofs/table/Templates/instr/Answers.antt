@@ -13,7 +13,7 @@ returns-then-pc-entry c =
     let e = c.entry-entry.result in
     let told = c.entry-entry.ensures in (
       omega (arith, program_length t i e told.within told.is),
-      ap (λ (xs : List Instr). instr_of (tree_at t i) (get_or xs (e.place * 1024 + pc) _)) c.as-slice.ensures.value
+      ap (λ (xs : List Instr). instr_of (tree_at t i) (get_or xs (e.place * 1024 + pc) _)) c.as_slice.ensures.value
           ∙ program_at t i e told.within told.is pc _ c.if-pc-entry.true,
     )
 

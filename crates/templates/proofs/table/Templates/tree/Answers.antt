@@ -10,7 +10,7 @@ returns c =
     let i = c.args.i in
     let e = c.entry-entry.result in
     let told = c.entry-entry.ensures in
-    let read = lent _ _ (e.place * 16384 + 8192) e.tree_len c.as-slice.ensures.value ∙ tree_read t i e told.within told.is in
+    let read = lent _ _ (e.place * 16384 + 8192) e.tree_len c.as_slice.ensures.value ∙ tree_read t i e told.within told.is in
     record {
       bytes = read;
       unpacks = ap (unpack (template_at (templates_of t) i).source) read ∙ tree_unpacks t i e told.within told.is;
