@@ -8,5 +8,5 @@ returns c = record {
   kept = search rules;
   joins =
       joins _ _ _ _ _ _ _ _ pushed _ _ _ c.in-Some.ensures.popped c.in-Some-pop.ensures.popped c.requires.known
-      c.push-made.ensures c.push-value.ensures.tops;
+      c.push-made.ensures c.push_value.ensures.tops;
 }

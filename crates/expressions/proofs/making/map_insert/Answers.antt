@@ -8,5 +8,5 @@ returns c = record {
   kept = search rules;
   joins =
       joins _ _ _ _ _ _ _ _ (λ m v. inserted m c.args.key.now v) _ _ _ c.in-Some.ensures.popped c.in-Some-pop.ensures.popped c.requires.known
-      c.insert-made.ensures c.push-value.ensures.tops;
+      c.insert-made.ensures c.push_value.ensures.tops;
 }

@@ -3,6 +3,6 @@ use Rattle.expressions.proofs.making.start_literal.Goals as goal
 
 pub returns : goal.returns
 returns c = record {
-  kept = c.push-value.ensures.kept;
-  pushes = makes_top _ _ _ _ _ _ _ _ _ c.requires.known c.make-literal-made.ensures c.push-value.ensures.tops;
+  kept = c.push_value.ensures.kept;
+  pushes = makes_top _ _ _ _ _ _ _ _ _ c.requires.known c.make_literal-made.ensures c.push_value.ensures.tops;
 }

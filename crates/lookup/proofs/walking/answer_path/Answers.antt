@@ -13,7 +13,7 @@ returns-in-Ok c =
     let by = ask c.args.source.now in
     let v = value s c.args.start in
     let ms = members_of c.args.path in
-    answers_as s _ (ap answer (walk_carried by v ms)) (answers_value s by (walk by v ms) c.in-Ok.found c.unwrap-or.result c.unwrap-or.ensures c.in-Ok.ensures)
+    answers_as s _ (ap answer (walk_carried by v ms)) (answers_value s by (walk by v ms) c.in-Ok.found c.unwrap_or.result c.unwrap_or.ensures c.in-Ok.ensures)
 
 pub returns-in-Err : goal.returns-in-Err
 returns-in-Err c =

@@ -15,16 +15,16 @@ returns-in-List c =
     let v = value s c.args.from in
     tells_as s
     (index_list m m.op v c.args.number (sym c.kind.ensures ∙ c.in-List.is))
-    c.or-absent.ensures
-    (tells_given s (part_of v c.args.number) c.part.result m.op m NoSuchIndex (size_of v) c.fault-at-absent.result c.part.ensures
-    (c.fault-at-absent.ensures ∙ ap (fault_at NoSuchIndex m.span) c.size.ensures))
+    c.or_absent.ensures
+    (tells_given s (part_of v c.args.number) c.part.result m.op m NoSuchIndex (size_of v) c.fault_at-absent.result c.part.ensures
+    (c.fault_at-absent.ensures ∙ ap (fault_at NoSuchIndex m.span) c.size.ensures))
 
-pub returns-in-default : goal.returns-in-default
-returns-in-default c =
+pub returns-in_default : goal.returns-in_default
+returns-in_default c =
     let s = c.args.store.now in
     let m = c.args.member in
     let v = value s c.args.from in
     tells_as s
-    (index_other m m.op v c.args.number (λ k. c.in-default.not-List (c.kind.ensures ∙ k)))
+    (index_other m m.op v c.args.number (λ k. c.in_default.not-List (c.kind.ensures ∙ k)))
     refl
-    (c.fault-at.ensures ∙ ap (fault_at WrongAccess m.span) (c.byte.ensures ∙ ap byte_of c.kind.ensures ∙ kind_byte v))
+    (c.fault_at.ensures ∙ ap (fault_at WrongAccess m.span) (c.byte.ensures ∙ ap byte_of c.kind.ensures ∙ kind_byte v))

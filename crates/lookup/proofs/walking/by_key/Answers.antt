@@ -16,15 +16,15 @@ returns-in-Map c =
     let key = c.args.key.now in
     tells_as s
     (key_map m m.op v key (sym c.kind.ensures ∙ c.in-Map.is))
-    c.or-absent.ensures
-    (tells_given s (entry_in v key) c.value-of.result m.op m NoSuchKey 0 c.fault-at-absent.result c.value-of.ensures c.fault-at-absent.ensures)
+    c.or_absent.ensures
+    (tells_given s (entry_in v key) c.value_of.result m.op m NoSuchKey 0 c.fault_at-absent.result c.value_of.ensures c.fault_at-absent.ensures)
 
-pub returns-in-default : goal.returns-in-default
-returns-in-default c =
+pub returns-in_default : goal.returns-in_default
+returns-in_default c =
     let s = c.args.store.now in
     let m = c.args.member in
     let v = value s c.args.from in
     tells_as s
-    (key_other m m.op v c.args.key.now (λ k. c.in-default.not-Map (c.kind.ensures ∙ k)))
+    (key_other m m.op v c.args.key.now (λ k. c.in_default.not-Map (c.kind.ensures ∙ k)))
     refl
-    (c.fault-at.ensures ∙ ap (fault_at WrongAccess m.span) (c.byte.ensures ∙ ap byte_of c.kind.ensures ∙ kind_byte v))
+    (c.fault_at.ensures ∙ ap (fault_at WrongAccess m.span) (c.byte.ensures ∙ ap byte_of c.kind.ensures ∙ kind_byte v))
