@@ -1,16 +1,12 @@
 -- A value that is made and pushed.
 use Rattle.std.proofs.Common.{◌≡◌, ◌+◌, ◌≤◌, min, List, ◌∷◌, length, Ok, Err, Result, sym, refl, ap, ◌∙◌, subst, ap₂, add-zero, arith, le-leb}
 use native.Mathlib.Nat.{le-min}
-use Rattle.meaning.specs.Or.{Or, fails, gives}
 use Rattle.meaning.specs.Charge.{Charge, ◌⊕◌, charge, cost}
 use Rattle.meaning.specs.Expressions.{Argument as Meant}
-use Rattle.meaning.specs.Fault.{Fault, fault_at}
-use Rattle.meaning.specs.FaultRecords.{fault_of}
 use Rattle.meaning.specs.Value.{Value, none}
-use Rattle.meaning.specs.declared.fault.Cause.TheVariants.{StoreFull}
 use Rattle.meaning.specs.declared.fault.Fault as code
 use Rattle.meaning.specs.declared.tree.Span.{Span}
-use Rattle.store.specs.Stores.{Added, Made, Over, supply, used, value}
+use Rattle.store.specs.Stores.{Added, Made, supply, used, value}
 use Rattle.store.specs.declared.cell.Ref.{Ref}
 use Rattle.store.specs.declared.cell.Ref.TheVariants.{None}
 use Rattle.store.specs.declared.memory.Full.{Full}

@@ -1,5 +1,5 @@
 -- What an instruction of an expression does: it pushes the value that it makes, or faults.
-use Rattle.std.specs.Prelude.{◌≡◌, ℕ, ◌<◌, ◌≤◌, List, ◌∷◌, length, Ok, Err, Result}
+use Rattle.std.specs.Prelude.{◌≡◌, ◌<◌, ◌≤◌, List, ◌∷◌, length, Ok, Err, Result}
 use Rattle.meaning.specs.Or.{Or, fails, gives}
 use Rattle.meaning.specs.Charge.{Charge, charge}
 use Rattle.meaning.specs.Fault.{Fault, fault_at}

@@ -1,11 +1,11 @@
 -- What arguments stand for stays where the store grows.
-use Rattle.std.proofs.Common.{◌≡◌, List, [], ◌∷◌, refl, ap, ap₂}
+use Rattle.std.proofs.Common.{◌≡◌, List, [], ◌∷◌, refl, ap₂}
 use Rattle.meaning.specs.Value.{Value}
 use Rattle.meaning.specs.Expressions.{Argument as Meant}
-use Rattle.store.specs.Stores.{Known, Over}
+use Rattle.store.specs.Stores.{Over}
 use Rattle.store.specs.declared.memory.Store.{Store}
 use Rattle.store.proofs.Stores.{known_over}
-use Rattle.hosts.specs.Answers.{AllKnown, arguments_in, values_in}
+use Rattle.hosts.specs.Answers.{AllKnown, arguments_in}
 use Rattle.hosts.specs.declared.answer.Argument.{Argument}
 
 pub all_known_over : (a b : Store) (args : List Argument) → Over a b → AllKnown a args → AllKnown b args

@@ -1,16 +1,16 @@
 -- What is outlined of a part, once what is outlined of the parts within it is known.
-use Rattle.std.proofs.Common.{◌≡◌, ℕ, ◌+◌, ◌≤◌, Bool, true, not, ◌&&◌, leb, List, [], ◌∷◌, ◌++◌, length, IfOk, Ok, Err, codes, Result, sym, refl, ap, ◌∙◌, subst, append_assoc, arith, length-append, leb-true}
+use Rattle.std.proofs.Common.{◌≡◌, ℕ, ◌+◌, ◌&&◌, leb, List, [], ◌∷◌, ◌++◌, length, IfOk, Ok, Err, codes, Result, sym, ◌∙◌, subst, arith, length-append, leb-true}
 use Rattle.std.specs.declared.alloc.AllocError.{AllocError}
 use Rattle.meaning.specs.declared.tree.Member.{Member}
 use Rattle.meaning.specs.declared.tree.Span.{Span}
-use Rattle.meaning.specs.Tree.{Expr, BaseExpr, Args, Stmt, Scope, Base, Filter, done, ◌then◌}
+use Rattle.meaning.specs.Tree.{Expr, BaseExpr, Args, Stmt, Base, Filter}
 use Rattle.packing.specs.Rfc3629.{between_characters}
 use Rattle.packing.specs.Limits.{Inside, inside, MembersFit}
-use Rattle.packing.specs.Packing.{pack_expr, pack_base, pack_args, pack}
+use Rattle.packing.specs.Packing.{pack_expr, pack_args}
 use Rattle.packing.proofs.Fields.{both_true}
 use Rattle.checker.specs.TreeHeads.{base_behind, expr_behind, stmt_behind}
-use Rattle.job.specs.Lines.{Adds, Wrote, Lies, MembersLie, spans_line}
-use Rattle.job.specs.Outline.{outline_expr, outline_base, outline_args, outline_stmt, outline_scope}
+use Rattle.job.specs.Lines.{Adds, Lies, MembersLie, spans_line}
+use Rattle.job.specs.Outline.{outline_expr, outline_base, outline_args, outline_stmt}
 use Rattle.job.specs.Outlined.{Outlined}
 use Rattle.job.proofs.Writing.{then_adds, then_wrote}
 

@@ -1,14 +1,12 @@
 -- A line read step by step.
-use Rattle.std.proofs.Common.{◌≡◌, ℕ, ◌<◌, ◌≤◌, Bool, true, false, eqb, List, [], ◌∷◌, ◌++◌, length, get_or, take, drop, Ok, Err, codes, Decides, Result, sym, refl, ap, ◌∙◌, arith, drop_of_length-le, rules, ne_eqb}
+use Rattle.std.proofs.Common.{◌≡◌, ℕ, ◌<◌, ◌≤◌, Bool, false, eqb, List, [], ◌∷◌, length, get_or, drop, Err, sym, refl, ◌∙◌, arith, drop_of_length-le, ne_eqb}
 use borrow.Author.Tests.{eqb-false}
-use Rattle.meaning.specs.Or.{Or, fails, gives}
-use Rattle.job.specs.declared.word.BadLine.{BadLine}
-use Rattle.job.specs.declared.word.BadLine.TheVariants.{NoCall, MoreWords}
+use Rattle.meaning.specs.Or.{fails, gives}
+use Rattle.job.specs.declared.word.BadLine.TheVariants.{MoreWords}
 use Rattle.job.specs.declared.word.Failure.{Failure}
 use Rattle.job.specs.declared.word.Failure.TheVariants.{Memory, Bad}
-use Rattle.job.specs.declared.line.Line.{Line}
-use Rattle.job.specs.Calls.{Call, passed_over, add, space, line_end, added, read_off, is_add, call_of, Asks, Skips}
-use Rattle.job.specs.Words.{Told, Reads, word}
+use Rattle.job.specs.Calls.{passed_over, add, space, line_end, added, read_off, is_add, call_of, Asks, Skips}
+use Rattle.job.specs.Words.{Told, word}
 use Rattle.job.proofs.Wording.{here}
 
 pub nothing_asked : (line : List ℕ) → length line ≡ 0 → call_of line ≡ gives passed_over

@@ -1,12 +1,12 @@
 -- Parts in a row, as far as they are outlined: what is left gives the whole.
-use Rattle.std.proofs.Common.{◌≡◌, ℕ, suc, ◌+◌, ◌≤◌, List, [], ◌++◌, length, codes, sym, refl, ap, ◌∙◌, subst, append_assoc, append-nil, arith, length-append}
+use Rattle.std.proofs.Common.{◌≡◌, ℕ, suc, ◌+◌, ◌≤◌, List, ◌++◌, length, codes, sym, ap, ◌∙◌, subst, append_assoc, append-nil, arith, length-append}
 use Rattle.meaning.specs.Bytes.{little_endian}
-use Rattle.meaning.specs.Tree.{BaseExpr, String, Args, Pairs, no_args, arg, no_pairs, pair, count_args, count_pairs, Stmt, Scope, done, ◌then◌}
+use Rattle.meaning.specs.Tree.{String, Args, Pairs, no_args, arg, no_pairs, pair, count_args, count_pairs, Stmt, Scope, done, ◌then◌}
 use Rattle.packing.specs.Limits.{ArgsFit, PairsFit, ScopeFits}
 use Rattle.packing.specs.Packing.{pack_span, pack_text, pack_string, pack_base, pack_args, pack_pairs, pack}
 use Rattle.checker.specs.There.{Stands}
 use Rattle.checker.specs.TreeHeads.{scope_behind, stmt_behind}
-use Rattle.checker.proofs.Walking.{ArgsParts, args_parts, PairsParts, pairs_parts}
+use Rattle.checker.proofs.Walking.{ArgsParts, PairsParts}
 use Rattle.job.specs.Lines.{Adds, string_line}
 use Rattle.job.specs.Outline.{outline_base, outline_args, outline_pairs, outline_stmt, outline_scope}
 

@@ -1,13 +1,13 @@
 -- Words of a line, read byte by byte.
-use Rattle.std.proofs.Common.{◌≡◌, ℕ, suc, ◌+◌, ◌*◌, ◌<◌, ◌≤◌, true, false, eqb, List, [], ◌∷◌, ◌++◌, length, get_or, drop, Ok, Err, Result, sym, refl, ap, ◌∙◌, append_assoc, append-nil, add-one, arith, drop_of_length-le, drop-cons, eq-eqb, ne_eqb}
-use mathlib.Core.Option.{Option, none, some}
+use Rattle.std.proofs.Common.{◌≡◌, ℕ, ◌+◌, ◌*◌, ◌<◌, ◌≤◌, List, [], ◌∷◌, ◌++◌, length, get_or, drop, Ok, Err, Result, sym, refl, ap, ◌∙◌, append_assoc, append-nil, add-one, arith, drop_of_length-le, drop-cons, ne_eqb}
+use mathlib.Core.Option.{none, some}
 use Rattle.meaning.specs.Or.{Or, fails, gives}
 use Rattle.job.specs.declared.word.BadLine.{BadLine}
 use Rattle.job.specs.declared.word.BadLine.TheVariants.{MissingWord, NotHex, OddDigits, BadEscape, OpenQuote, NoSpace}
 use Rattle.job.specs.declared.word.Failure.{Failure}
 use Rattle.job.specs.declared.word.Failure.TheVariants.{Memory, Bad}
 use Rattle.job.specs.Calls.{space}
-use Rattle.job.specs.Words.{Told, Reads, digit, before, hex, second_digit, unescaped, unquote, behind_backslash, word}
+use Rattle.job.specs.Words.{Told, Reads, digit, before, hex, unescaped, unquote, word}
 
 -- bytes that were read before the others
 abbrev pub behind : List ℕ → Or BadLine (List ℕ × List ℕ) → Or BadLine (List ℕ × List ℕ)

@@ -1,5 +1,5 @@
 -- One part of a report after another.
-use Rattle.std.proofs.Common.{◌≡◌, ℕ, suc, ◌+◌, ◌-◌, ◌<◌, ◌≤◌, List, [], ◌∷◌, ◌++◌, length, get_or, drop, IfOk, Ok, Err, codes, Result, sym, refl, ap, ◌∙◌, append_assoc, append-nil, add-one, arith, drop_of_length-le, drop-cons}
+use Rattle.std.proofs.Common.{◌≡◌, ℕ, suc, ◌+◌, ◌-◌, ◌<◌, ◌≤◌, List, [], ◌∷◌, ◌++◌, length, get_or, drop, IfOk, Ok, Err, codes, Result, sym, ap, ◌∙◌, append_assoc, append-nil, add-one, arith, drop_of_length-le, drop-cons}
 use Rattle.std.specs.declared.alloc.AllocError.{AllocError}
 use Rattle.meaning.specs.declared.tree.Member.{Member}
 use Rattle.job.specs.Lines.{Adds, Wrote, escape, escaped, indent, mark, marks}

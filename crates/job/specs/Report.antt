@@ -1,5 +1,5 @@
 -- What a report says of a line: what it asked for, and what came of it.
-use Rattle.std.specs.Prelude.{◌≡◌, ℕ, ◌+◌, cond, List, [], ◌++◌, length, codes, decimal, ◌==◌}
+use Rattle.std.specs.Prelude.{ℕ, cond, List, [], ◌++◌, length, codes, decimal, ◌==◌}
 use Rattle.meaning.specs.Or.{Or, fails, gives}
 use Rattle.meaning.specs.Fault.{Fault, number}
 use Rattle.meaning.specs.declared.fault.Cause.{Cause}
@@ -8,7 +8,7 @@ use Rattle.packing.specs.Unpacking.{unpack}
 use Rattle.job.specs.declared.word.BadLine.{BadLine}
 use Rattle.job.specs.declared.report.Came.{Came}
 use Rattle.job.specs.declared.report.Counts.{Counts}
-use Rattle.job.specs.Calls.{Call, passed_over, add, call_of}
+use Rattle.job.specs.Calls.{Call, passed_over, add}
 use Rattle.job.specs.Lines.{quoted}
 use Rattle.job.specs.Outline.{outline_scope}
 

@@ -1,5 +1,5 @@
 -- What the writers of reports promise.
-use Rattle.std.specs.Prelude.{◌≡◌, ℕ, ◌+◌, ◌-◌, ◌^◌, min, List, IfOk, Result}
+use Rattle.std.specs.Prelude.{◌≡◌, ℕ, ◌+◌, ◌-◌, ◌^◌, min, IfOk, Result}
 use Rattle.std.specs.declared.alloc.AllocError.{AllocError}
 use Rattle.job.specs.declared.report.Came.{Came}
 use Rattle.job.specs.declared.report.Counts.{Counts}

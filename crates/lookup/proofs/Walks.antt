@@ -17,7 +17,7 @@ use Rattle.meaning.specs.declared.tree.AccessOp.{AccessOp}
 use Rattle.meaning.specs.declared.tree.AccessOp.TheVariants.{Direct, Optional}
 use Rattle.meaning.specs.declared.tree.Member.{Member}
 use Rattle.store.specs.Kinds.{kind_of, byte_of, size_of}
-use Rattle.store.specs.Stores.{Known, Found, value}
+use Rattle.store.specs.Stores.{Found}
 use Rattle.store.specs.Values.{part_of, entry_in}
 use Rattle.store.specs.declared.cell.Ref.{Ref}
 use Rattle.store.specs.declared.cell.Ref.TheVariants.{None as Nothing}

@@ -1,5 +1,5 @@
 -- What the walk in code answers, by the walk as it is defined.
-use Rattle.std.specs.Prelude.{◌≡◌, ℕ, suc, ◌+◌, [], ◌∷◌, Some, None, Ok, Err, Option, Result}
+use Rattle.std.specs.Prelude.{◌≡◌, ℕ, ◌+◌, [], ◌∷◌, Some, None, Ok, Err, Option, Result}
 use Rattle.meaning.specs.Fault.{fault_at}
 use Rattle.meaning.specs.FaultRecords.{fault_of}
 use Rattle.meaning.specs.Hosts.{Reason}

@@ -8,7 +8,6 @@ use Rattle.meaning.specs.Reading.{Templates}
 use Rattle.meaning.specs.Scopes.{Turn, one_item, one_entry}
 use Rattle.meaning.specs.Spans.{text_at}
 use Rattle.meaning.specs.Statements.{item_turns, entry_turns}
-use Rattle.meaning.specs.declared.tree.Span.{Span}
 use Rattle.machine.specs.Machine.{Kind, a_source, a_scope, a_with, a_loop, a_boundary, Entry}
 use Rattle.templates.specs.Held.{template_at}
 use Rattle.store.specs.Cells.{at_span}

@@ -1,5 +1,5 @@
 -- What always holds of the stack of scopes: what an entry refers to lies below its floor, and the floors rise.
-use Rattle.std.specs.Prelude.{◌≡◌, ℕ, ◌<◌, ◌≤◌, true, List, [], ◌∷◌, length}
+use Rattle.std.specs.Prelude.{◌≡◌, ◌<◌, ◌≤◌, true, List, [], ◌∷◌, length}
 use Rattle.meaning.specs.Charge.{Charge}
 use Rattle.meaning.specs.Reading.{Templates}
 use Rattle.store.specs.Cells.{below, inside}

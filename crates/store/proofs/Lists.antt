@@ -2,17 +2,16 @@
 use Rattle.std.proofs.Common.{◌≡◌, ℕ, zero, suc, ◌+◌, ◌<◌, ◌≤◌, Bool, true, false, cond, not, ◌||◌, eqb, List, [], ◌∷◌, length, get_or, drop, sym, refl, ap, ◌∙◌, arith, length-drop}
 use mathlib.Core.Option.{Option, none, some}
 use Rattle.std.proofs.lemmas.List.{length-take-le}
-use Rattle.std.proofs.lemmas.Bool.{and_parts, and_from, cond-true, cond-false, eqb-true, false≢true, true≢false, eq-eqb, ne_eqb, leb-true}
+use Rattle.std.proofs.lemmas.Bool.{and_parts, and_from, cond-true, cond-false, eqb-true, false≢true, eq-eqb, ne_eqb, leb-true}
 use Rattle.std.specs.Str.{bytes_eq as same_text}
 use Rattle.meaning.specs.Bytes.{precedes}
 use Rattle.meaning.specs.Value.{Value, Items, Entries, Text, none as none_value, boolean, integer, float, string, list, map, no_items, item, no_entries, entry}
-use Rattle.meaning.specs.Parts.{append, count_items, nth, insert, value_of, count_entries, truth, non_empty, kind}
+use Rattle.meaning.specs.Parts.{append, count_items, nth, insert, count_entries, truth, non_empty, kind}
 use Rattle.store.specs.Values.{pushed, inserted, part_of, entry_in, above_bound, first_in, lower, has_parts, has_entries, goes_last, above_all, ascends}
 use Rattle.store.specs.Cells.{at_span, inside, of_ref}
 use Rattle.store.specs.Shown.{ShowsPush, ShowsInsert}
 use Rattle.store.specs.Kinds.{kind_of, byte_of, size_of}
 use Rattle.store.specs.declared.kinds.Kind.{Kind}
-use Rattle.store.specs.declared.kinds.Kind.TheVariants as kinds
 use Rattle.store.specs.declared.cell.TextSpan.{TextSpan}
 use Rattle.store.specs.declared.cell.Ref.{Ref}
 use Rattle.store.proofs.Maps.{is_some, value_of_insert, count_insert, ascends_insert, first_above_insert, lower_assoc}

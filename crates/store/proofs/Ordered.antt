@@ -1,12 +1,12 @@
 -- The entries of a map by their numbers in the order of keys: each is the first above the key of the one before it.
-use Rattle.std.proofs.Common.{◌≡◌, ℕ, zero, suc, ◌+◌, ◌≤◌, Bool, true, false, [], get_or, Some, None, sym, refl, ap, ◌∙◌, subst, add-one, arith}
+use Rattle.std.proofs.Common.{◌≡◌, ℕ, zero, suc, ◌+◌, ◌≤◌, true, [], None, sym, refl, ap, ◌∙◌, subst, add-one, arith}
 use mathlib.Core.Option.{Option, none, some}
 use Rattle.std.proofs.lemmas.Bool.{and_parts, cond-true, cond-false}
 use Rattle.std.specs.declared.option.Option as code
 use Rattle.meaning.specs.Bytes.{precedes}
 use Rattle.meaning.specs.Value.{Value, Entries, Text, none as none_value, boolean, integer, float, string, list, map, no_entries, entry}
 use Rattle.store.specs.Kinds.{kind_of, byte_of}
-use Rattle.store.specs.Stores.{EntryKnown, Known, entry_shown, shown, used, value, values_of}
+use Rattle.store.specs.Stores.{EntryKnown, Known, shown, value}
 use Rattle.store.specs.Values.{nth_entry, entry_at, first_above, first_in, starts_above, ascends}
 use Rattle.store.specs.declared.cell.Entry.{Entry}
 use Rattle.store.specs.declared.cell.Ref.{Ref}

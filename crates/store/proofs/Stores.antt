@@ -1,14 +1,14 @@
 -- What changes of a store come to: one cell more, one change after another, and back to a height.
-use Rattle.std.proofs.Common.{◌≡◌, ℕ, ◌+◌, ◌<◌, ◌≤◌, min, true, cond, leb, List, [], ◌∷◌, ◌++◌, length, get_or, take, Some, None, Ok, Err, Result, sym, refl, ap, ◌∙◌, subst, le_trans, arith, length-append}
+use Rattle.std.proofs.Common.{◌≡◌, ℕ, ◌+◌, ◌<◌, ◌≤◌, min, true, cond, leb, List, [], ◌∷◌, ◌++◌, length, get_or, take, Some, None, Ok, Err, Result, sym, refl, ap, ◌∙◌, subst, le_trans, arith}
 use mathlib.Core.Option.{Option, none, some}
 use native.Mathlib.Nat.{min-le_left, min-le_right}
-use Rattle.std.proofs.lemmas.List.{length_push, length-take, length-take-le, take_at, take-take, take_all, get_or_default, get_or-take}
+use Rattle.std.proofs.lemmas.List.{length-take, length-take-le, take_at, take-take, take_all, get_or_default, get_or-take}
 use Rattle.std.proofs.lemmas.Bool.{and_parts, leb-true, lt-ltb, ltb-true}
 use Rattle.std.specs.declared.option.Option as code
 use Rattle.meaning.specs.Charge.{Charge, ◌⊕◌, cell_and_text, within}
 use Rattle.meaning.specs.Value.{Value, Entries, Text, none as none_value, map}
 use Rattle.store.specs.Values.{entry_in, has_entries, inserted, ascends}
-use Rattle.store.specs.Cells.{of_ref, of_cell, meanings, below, fits, Sound}
+use Rattle.store.specs.Cells.{of_ref, of_cell, meanings, below, fits}
 use Rattle.store.specs.Kinds.{kind_of, size_of}
 use Rattle.store.specs.Shown.{Shows}
 use Rattle.store.specs.Stores.{Known, Found, SameMemory, Over, Height, Freed, PutBack, Grown, Added, Made, used, supply, cells_of, text_of, value, values_of}

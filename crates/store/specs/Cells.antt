@@ -1,5 +1,5 @@
 -- What cells stand for. The cells are a list, the lowest first; each refers only to lower ones.
-use Rattle.std.specs.Prelude.{◌≡◌, ℕ, ◌+◌, Bool, true, false, not, ◌&&◌, ◌||◌, List, [], ◌∷◌, ◌++◌, length, take, drop, nat_le, nat_lt, slice_index_or}
+use Rattle.std.specs.Prelude.{◌≡◌, ℕ, ◌+◌, Bool, true, not, ◌&&◌, ◌||◌, List, [], ◌∷◌, ◌++◌, length, take, drop, nat_le, nat_lt, slice_index_or}
 use Rattle.meaning.specs.Value.{Value, Text, none, boolean, integer, float, string, list, map, no_items, no_entries}
 use Rattle.store.specs.Values.{pushed, inserted, has_parts, has_entries, goes_last}
 use Rattle.store.specs.declared.cell.TextSpan.{TextSpan}

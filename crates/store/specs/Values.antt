@@ -2,7 +2,7 @@
 use Rattle.std.specs.Prelude.{ℕ, zero, suc, Bool, true, false, cond, ◌&&◌, ◌==◌, nat_eq}
 use Rattle.std.proofs.Math.Option.{Option, none, some}
 use Rattle.meaning.specs.Bytes.{precedes}
-use Rattle.meaning.specs.Value.{Value, list, map, Items, Entries, no_entries, entry, Text}
+use Rattle.meaning.specs.Value.{Value, list, map, Entries, no_entries, entry, Text}
 use Rattle.meaning.specs.Parts.{shape, of_items, of_entries, single, count_items, count_entries, nth, value_of, append, insert}
 
 -- a list with one part more

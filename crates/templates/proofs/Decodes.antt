@@ -1,5 +1,5 @@
 -- Instructions whose codes are the same are equal: an instruction is got back from its code.
-use Rattle.std.proofs.Common.{◌≡◌, ℕ, Bool, true, false, ◌&&◌, eqb, List, [], ◌∷◌, get_or, ℤ, pos, negsuc, sym, refl, ap, ◌∙◌, ap₂}
+use Rattle.std.proofs.Common.{◌≡◌, ℕ, Bool, true, false, List, [], ◌∷◌, get_or, ℤ, pos, negsuc, sym, refl, ap, ◌∙◌, ap₂}
 use Rattle.std.proofs.lemmas.Bool.{eqb-true, eq-eqb, and_parts, and_from, false≢true}
 use Rattle.meaning.specs.Value.{Value, Items, Entries, Text, none, boolean, integer, float, string, list, map, no_items, item, no_entries, entry}
 use Rattle.meaning.specs.Tree.{String, Var, LoopVars, Item, KeyValue}

@@ -1,5 +1,5 @@
 -- What is read of the templates by an index.
-use Rattle.std.proofs.Common.{◌≡◌, ℕ, zero, suc, ◌+◌, ◌-◌, ◌*◌, ◌<◌, ◌≤◌, true, ◌&&◌, List, [], ◌∷◌, length, get_or, take, drop, Some, None, vec_items, sym, refl, ap, ◌∙◌, ap₂, arith, length-drop, length-take}
+use Rattle.std.proofs.Common.{◌≡◌, ℕ, zero, suc, ◌+◌, ◌-◌, ◌*◌, ◌<◌, ◌≤◌, true, List, [], ◌∷◌, length, get_or, take, drop, Some, None, vec_items, sym, ap, ◌∙◌, ap₂, arith, length-drop, length-take}
 use mathlib.Core.Option.{some}
 use Rattle.std.specs.declared.option.Option as code_option
 use Rattle.std.proofs.lemmas.List.{length-take-le, take-take, drop-take, drop-drop, get_or-take, get_or-drop}
@@ -8,7 +8,7 @@ use Rattle.std.specs.Cmp.Lexicographic.{bytes_decides}
 use Rattle.meaning.specs.Fault.{Fault}
 use Rattle.meaning.specs.Names.{name_of}
 use Rattle.meaning.specs.Or.{Or, gives}
-use Rattle.meaning.specs.Reading.{Template, find}
+use Rattle.meaning.specs.Reading.{Template}
 use Rattle.meaning.specs.Tree.{Scope}
 use Rattle.meaning.specs.Value.{Text}
 use Rattle.packing.specs.Unpacking.{unpack}
@@ -17,8 +17,8 @@ use Rattle.checker.specs.Whole.{unpacks}
 use Rattle.checker.proofs.WholeThere.{template_scope}
 use Rattle.compiler.specs.declared.instr.Instr.{Instr}
 use Rattle.compiler.specs.Records.{instr_of}
-use Rattle.templates.specs.Entries.{bytes_at, instrs_at, source_of, tree_of, records_of, scope_of, template_from, template_of, held, trees, means, sound, First, Located}
-use Rattle.templates.specs.Held.{entries_of, templates_of, name_at, template_at, tree_at, Finds, instr_at, Fetches}
+use Rattle.templates.specs.Entries.{instrs_at, source_of, tree_of, records_of, scope_of, template_of, trees, means, sound, Located}
+use Rattle.templates.specs.Held.{entries_of, templates_of, name_at, template_at, tree_at, Finds, instr_at}
 use Rattle.templates.specs.declared.entry.Entry.{Entry}
 use Rattle.templates.specs.declared.table.Templates.{Templates}
 use Rattle.templates.proofs.Kept.{sound_at}

@@ -1,14 +1,12 @@
 -- What is written at one place leaves the entries at other places as they were.
-use Rattle.std.proofs.Common.{◌≡◌, ℕ, zero, suc, ◌+◌, ◌*◌, ◌<◌, ◌≤◌, Bool, true, false, cond, ◌&&◌, eqb, ◌⊎◌, List, [], ◌∷◌, ◌++◌, length, get_or, take, drop, sym, refl, ap, ◌∙◌, ap₂, inl, inr, arith}
-use Rattle.std.proofs.lemmas.List.{take-take, take_at, take-append-drop, drop-take, drop-drop}
+use Rattle.std.proofs.Common.{◌≡◌, ℕ, zero, suc, ◌+◌, ◌*◌, ◌<◌, ◌≤◌, Bool, true, ◌&&◌, ◌⊎◌, List, [], ◌∷◌, ◌++◌, length, get_or, take, drop, refl, ap, ◌∙◌, inl, inr, arith}
 use Rattle.std.proofs.lemmas.Bool.{cases_order, eq-eqb, and_parts, and_from}
 use Rattle.meaning.specs.Names.{name_of}
-use Rattle.meaning.specs.Reading.{Templates}
 use Rattle.compiler.specs.declared.instr.Instr.{Instr}
 use Rattle.templates.specs.Entries.{bytes_at, instrs_at, source_of, tree_of, records_of, template_from, held, sound, all_sound, lies, times}
 use Rattle.templates.specs.Writing.{written}
 use Rattle.templates.specs.declared.entry.Entry.{Entry}
-use Rattle.templates.proofs.Written.{length_written, read_before, read_here, read_behind}
+use Rattle.templates.proofs.Written.{read_before, read_behind}
 
 -- PLACES
 

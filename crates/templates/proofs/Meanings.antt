@@ -1,11 +1,11 @@
 -- That records mean a program, as a test and as a fact.
-use Rattle.std.proofs.Common.{◌≡◌, ℕ, zero, suc, ◌<◌, Bool, true, false, ◌&&◌, List, [], ◌∷◌, length, get_or, sym, refl, ap, ◌∙◌, arith}
+use Rattle.std.proofs.Common.{◌≡◌, ℕ, zero, suc, ◌<◌, true, List, [], ◌∷◌, length, get_or, refl, ap, ◌∙◌, arith}
 use mathlib.Core.Option.{Option, none, some}
 use Rattle.std.proofs.lemmas.Bool.{and_parts, and_from, false≢true}
 use Rattle.program.specs.Program as program
 use Rattle.compiler.specs.declared.instr.Instr.{Instr}
 use Rattle.compiler.specs.Records.{instr_of, Mean}
-use Rattle.templates.specs.Codes.{same, instr_code}
+use Rattle.templates.specs.Codes.{instr_code}
 use Rattle.templates.specs.Entries.{is_meant, means}
 use Rattle.templates.specs.Held.{instr_at}
 use Rattle.templates.proofs.Decodes.{same_itself, instr_equal}

@@ -1,7 +1,7 @@
 -- Entries that lie apart, and the table after one was set or put last.
-use Rattle.std.proofs.Common.{◌≡◌, ℕ, zero, suc, ◌+◌, ◌-◌, ◌<◌, ◌≤◌, max, List, [], ◌∷◌, ◌++◌, length, get_or, take, drop, set, sym, refl, ap, ◌∙◌, ap₂, append_assoc, arith, length-append, length-drop, drop-cons}
+use Rattle.std.proofs.Common.{◌≡◌, ℕ, suc, ◌+◌, ◌-◌, ◌<◌, ◌≤◌, max, List, [], ◌∷◌, ◌++◌, length, get_or, take, drop, set, sym, refl, ap, ◌∙◌, ap₂, arith, drop-cons}
 use lib.Seq.{take-append-add}
-use Rattle.std.proofs.lemmas.List.{take-append-drop, take-take, take_at, set_split, length-take-le, get_or_default, drop-drop}
+use Rattle.std.proofs.lemmas.List.{take-append-drop, take-take, set_split, length-take-le}
 use Rattle.std.proofs.lemmas.Slice.{between_is}
 use Rattle.std.proofs.lemmas.Bool.{eq-eqb}
 use Rattle.templates.specs.Entries.{lies, times, Apart}

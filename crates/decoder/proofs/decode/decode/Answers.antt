@@ -1,4 +1,3 @@
-use Rattle.std.proofs.Common.{◌∙◌}
 use Rattle.decoder.proofs.Variables.{variable_means, variable_missing}
 use Rattle.decoder.proofs.decode.decode.Goals as goal
 

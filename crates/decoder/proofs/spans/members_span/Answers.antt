@@ -1,4 +1,4 @@
-use Rattle.std.proofs.Common.{◌≡◌, suc, ◌-◌, sym, refl, ap, ◌∙◌, arith}
+use Rattle.std.proofs.Common.{◌≡◌, suc, ◌-◌, sym, ap, ◌∙◌, arith}
 use mathlib.Core.Option.{some}
 use Rattle.compiler.specs.Records.{members_span}
 use Rattle.reader.proofs.Members.{decoded_more, decoded_stops, decoded_none}

@@ -1,4 +1,4 @@
-use Rattle.std.proofs.Common.{◌≡◌, ℕ, ◌<◌, true, false, length, take, vec_items, codes, sym, ◌∙◌, arith, eqb-true}
+use Rattle.std.proofs.Common.{ℕ, ◌<◌, length, vec_items, sym, ◌∙◌, arith, eqb-true}
 use Rattle.std.proofs.lemmas.Result.{err_from_is_err_and}
 use Rattle.std.specs.declared.alloc.Global.{Global}
 use Rattle.job.proofs.Calling.{nothing_asked, comment_asks, asks_to_add, has_some, name_fails, first_space_fails, source_fails, second_space_fails, tree_fails, more_follows, line_ends}

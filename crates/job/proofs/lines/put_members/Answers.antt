@@ -1,4 +1,4 @@
-use Rattle.std.proofs.Common.{◌≡◌, suc, ◌-◌, List, [], sym, refl, ap, ◌∙◌, subst, arith}
+use Rattle.std.proofs.Common.{◌≡◌, suc, ◌-◌, refl, subst, arith}
 use Rattle.reader.proofs.Members.{decoded_more, decoded_stops, decoded_none}
 use Rattle.job.specs.Lines.{MembersLie}
 use Rattle.job.proofs.Writing.{marks_more, marks_whole}

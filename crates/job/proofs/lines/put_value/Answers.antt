@@ -1,4 +1,4 @@
-use Rattle.std.proofs.Common.{ℕ, List, ◌++◌, codes, decimal, ap, ◌∙◌, subst}
+use Rattle.std.proofs.Common.{ℕ, ◌++◌, codes, decimal, ap, ◌∙◌, subst}
 use Rattle.reader.specs.Meanings.{eight_bytes}
 use Rattle.job.proofs.Writing.{then_wrote, wrote_same}
 use Rattle.job.proofs.lines.put_value.Goals as goal

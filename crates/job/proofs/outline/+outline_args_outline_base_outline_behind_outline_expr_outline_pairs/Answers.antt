@@ -1,16 +1,16 @@
-use Rattle.std.proofs.Common.{◌≡◌, ℕ, suc, ◌+◌, ◌-◌, ◌≤◌, length, codes, sym, refl, ap, ◌∙◌, subst, arith, length-append}
-use Rattle.meaning.specs.Tree.{String, MapOf, no_pairs, pair, ListOf, Variable, Literal, Paren, Call}
-use Rattle.packing.specs.Packing.{pack_expr, pack_base, pack_args, pack_pairs, pack_string}
+use Rattle.std.proofs.Common.{◌≡◌, suc, ◌+◌, ◌-◌, ◌≤◌, length, codes, sym, ap, ◌∙◌, subst, arith, length-append}
+use Rattle.meaning.specs.Tree.{String}
+use Rattle.packing.specs.Packing.{pack_base, pack_args, pack_pairs, pack_string}
 use Rattle.reader.specs.Heads.{BaseOf, FilterHead, VariableHead, LiteralHead, ListHead, EmptyMapHead, MapHead, ParenHead, CallHead}
 use Rattle.reader.specs.Fields.{members_of, text_of}
 use Rattle.reader.specs.Meanings.{base_of, expr_of}
-use Rattle.checker.specs.There.{Stands, ExprThere, BaseThere, ArgsThere, PairsThere, BehindBase, ValueThere}
+use Rattle.checker.specs.There.{Stands}
 use Rattle.checker.proofs.Parts.{base_parts, expr_parts}
 use Rattle.checker.proofs.Walking.{expr_known, expr_headed, base_known, base_headed, string_known, string_headed, args_parts, pairs_parts}
-use Rattle.job.specs.Lines.{Lies, MembersLie, members_line, string_line}
-use Rattle.job.specs.Outline.{outline_expr, outline_base, outline_args, outline_pairs}
+use Rattle.job.specs.Lines.{Lies, members_line, string_line}
+use Rattle.job.specs.Outline.{outline_base}
 use Rattle.job.proofs.Arms.{lies, members_lie, outlined_end, outlined_then, behind_arm, base_arm, filter_arm}
-use Rattle.job.proofs.Rows.{ArgsLeft, PairsLeft, args_more, args_all, pairs_more, pairs_all, string_some}
+use Rattle.job.proofs.Rows.{args_more, args_all, pairs_more, pairs_all, string_some}
 use Rattle.job.proofs.Writing.{adds_nothing, then_adds, adds_same}
 use Rattle.job.proofs.outline.+outline_args_outline_base_outline_behind_outline_expr_outline_pairs.Goals as goal
 

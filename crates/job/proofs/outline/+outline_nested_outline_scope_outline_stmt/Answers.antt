@@ -1,18 +1,17 @@
-use Rattle.std.proofs.Common.{◌≡◌, ℕ, suc, ◌+◌, ◌-◌, ◌≤◌, ◌++◌, length, codes, sym, refl, ap, ◌∙◌, subst, arith, length-append}
+use Rattle.std.proofs.Common.{◌++◌, sym, ap, ◌∙◌, subst, arith, length-append}
 use Rattle.packing.specs.Packing.{pack_expr, pack}
 use Rattle.reader.specs.Heads.{RawHead, InlineHead, IncludeHead, IncludeWithHead, IfHead, IfElseHead, ForItemHead, ForPairHead, WithHead, StmtOf, EndHead}
 use Rattle.reader.specs.Fields.{text_of}
 use Rattle.reader.specs.Meanings.{stmt_of, scope_of}
-use Rattle.checker.specs.There.{Stands, ExprThere, ScopeThere, NestedThere, BehindStmt}
-use Rattle.checker.specs.TreeHeads.{stmt_behind}
+use Rattle.checker.specs.There.{Stands, ScopeThere}
 use Rattle.checker.proofs.There.{first_part, second_part, three_stand}
 use Rattle.checker.proofs.Parts.{stmt_parts, scope_parts}
 use Rattle.checker.proofs.Walking.{scope_known, scope_headed}
-use Rattle.job.specs.Lines.{Lies, label_line}
-use Rattle.job.specs.Outline.{if_label, nested, outline_stmt, outline_scope}
+use Rattle.job.specs.Lines.{label_line}
+use Rattle.job.specs.Outline.{outline_stmt}
 use Rattle.job.proofs.Arms.{lies, outlined_end, outlined_then, stmt_arm}
-use Rattle.job.proofs.Rows.{ScopeLeft, scope_more, scope_all}
-use Rattle.job.proofs.Writing.{adds_nothing, then_adds, adds_same}
+use Rattle.job.proofs.Rows.{scope_more, scope_all}
+use Rattle.job.proofs.Writing.{then_adds, adds_same}
 use Rattle.job.proofs.outline.+outline_nested_outline_scope_outline_stmt.Goals as goal
 
 pub outline_nested-outline_expr-requires : goal.outline_nested-outline_expr-requires

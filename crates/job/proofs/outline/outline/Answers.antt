@@ -1,8 +1,8 @@
 use Rattle.std.proofs.Common.{◌≡◌, ℕ, true, List, sym, ap, ◌∙◌, subst, arith}
-use Rattle.meaning.specs.Or.{Or, gives}
+use Rattle.meaning.specs.Or.{gives}
 use Rattle.packing.specs.Unpacking.{unpack}
 use Rattle.checker.specs.Whole.{unpacks}
-use Rattle.checker.specs.Templates.{source_of, tree_of}
+use Rattle.checker.specs.Templates.{source_of}
 use Rattle.checker.specs.There.{ScopeThere}
 use Rattle.checker.proofs.WholeThere.{template_scope, whole_there}
 use Rattle.job.specs.Outline.{outline_scope}

@@ -1,4 +1,4 @@
-use Rattle.std.proofs.Common.{sym, ap, ◌∙◌, arith}
+use Rattle.std.proofs.Common.{ap, arith}
 use Rattle.checker.proofs.Walking.{value_known, value_headed}
 use Rattle.job.specs.Lines.{value_line}
 use Rattle.job.proofs.Writing.{adds_same}

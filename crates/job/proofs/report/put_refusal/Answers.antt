@@ -1,4 +1,4 @@
-use Rattle.std.proofs.Common.{◌≡◌, ℕ, List, ◌++◌, codes, decimal, sym, ap, ◌∙◌}
+use Rattle.std.proofs.Common.{ℕ, ◌++◌, codes, decimal, ap, ◌∙◌}
 use Rattle.job.specs.Report.{place_words}
 use Rattle.job.proofs.Writing.{adds_same, then_adds, then_wrote, wrote_same}
 use Rattle.job.proofs.report.put_refusal.Goals as goal

@@ -1,4 +1,4 @@
-use Rattle.std.proofs.Common.{◌≡◌, ℕ, List, ◌++◌, codes, decimal, sym, ap, ◌∙◌}
+use Rattle.std.proofs.Common.{◌∙◌}
 use Rattle.job.proofs.Writing.{wrote_same}
 use Rattle.job.proofs.report.put_taken.Goals as goal
 

@@ -1,4 +1,4 @@
-use Rattle.std.proofs.Common.{◌≡◌, ℕ, ◌+◌, ◌<◌, List, length, drop, sym, ap, ◌∙◌, arith}
+use Rattle.std.proofs.Common.{ℕ, ◌+◌, ◌<◌, List, length, drop, sym, ap, ◌∙◌, arith}
 use Rattle.job.specs.Words.{hex}
 use Rattle.job.proofs.Wording.{behind, behind_none, hex_ends, hex_stops, hex_bad, hex_cut, hex_odd, hex_bad_second, hex_more}
 use Rattle.job.proofs.word.read_hex.Goals as goal

@@ -1,4 +1,4 @@
-use Rattle.std.proofs.Common.{◌≡◌, ℕ, ◌+◌, ◌<◌, List, length, drop, sym, ap, ◌∙◌, arith}
+use Rattle.std.proofs.Common.{ℕ, ◌+◌, List, drop, sym, ap, ◌∙◌, arith}
 use Rattle.job.specs.Words.{unquote}
 use Rattle.job.proofs.Wording.{behind, behind_none, quote_open, quote_closes, quote_plain, quote_cut, quote_bad, quote_more}
 use Rattle.job.proofs.word.read_quoted.Goals as goal

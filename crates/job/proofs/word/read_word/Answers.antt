@@ -1,4 +1,4 @@
-use Rattle.std.proofs.Common.{◌≡◌, ℕ, ◌+◌, List, drop, vec_items, sym, ap, ◌∙◌, arith}
+use Rattle.std.proofs.Common.{ℕ, ◌+◌, List, drop, vec_items, sym, ap, ◌∙◌, arith}
 use Rattle.meaning.specs.Or.{gives}
 use Rattle.job.specs.Words.{word, hex, unquote}
 use Rattle.job.proofs.Wording.{word_none, word_space, word_dash, word_quote, word_hex, told_as}

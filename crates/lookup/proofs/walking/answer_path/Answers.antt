@@ -1,4 +1,4 @@
-use Rattle.std.proofs.Common.{map as each, sym, ap, ◌∙◌}
+use Rattle.std.proofs.Common.{ap}
 use Rattle.meaning.specs.Scopes.{ask}
 use Rattle.meaning.specs.Sources.{answer}
 use Rattle.meaning.specs.Walk.{walk}

@@ -1,4 +1,4 @@
-use Rattle.std.proofs.Common.{◌≡◌, suc, ◌+◌, false, List, [], ◌∷◌, ◌++◌, take, drop, sym, ap, ◌∙◌, drop-cons}
+use Rattle.std.proofs.Common.{◌≡◌, suc, ◌+◌, [], ◌∷◌, ◌++◌, take, drop, sym, ap, ◌∙◌, drop-cons}
 use Rattle.std.proofs.lemmas.List.{take_all, take_more}
 use Rattle.templates.specs.Entries.{named}
 use Rattle.templates.specs.declared.entry.Entry.{Entry}

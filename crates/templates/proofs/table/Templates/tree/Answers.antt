@@ -1,4 +1,4 @@
-use Rattle.std.proofs.Common.{◌≡◌, ◌+◌, ◌*◌, ap, ◌∙◌}
+use Rattle.std.proofs.Common.{◌+◌, ◌*◌, ap, ◌∙◌}
 use Rattle.packing.specs.Unpacking.{unpack}
 use Rattle.templates.specs.Held.{template_at, templates_of}
 use Rattle.templates.proofs.Indexed.{lent, tree_read, tree_unpacks}
