@@ -1,11 +1,11 @@
 -- What a page does with a piece, by its memory and how much of it is used.
-use Rattle.std.proofs.Common.{◌≡◌, ℕ, ◌+◌, ◌-◌, ◌<◌, ◌≤◌, min, List, ◌++◌, length, take, drop, sym, ap, ◌∙◌, ap₂, arith, length-drop, length-take, le-leb}
+use Rattle.std.proofs.Common.{◌≡◌, ℕ, ◌+◌, ◌-◌, ◌<◌, ◌≤◌, List, ◌++◌, length, take, drop, sym, ap, ◌∙◌, ap₂, arith, length-drop, length-take, le-leb}
 use borrow.Author.Tests.{lt-leb}
 use borrow.Rule.Slice.PartMut.{put_mid, same_len_mid}
 use Rattle.std.proofs.lemmas.List.{nil_from_length}
 use Rattle.std.proofs.lemmas.Slice.{take-put_mid}
 use Rattle.std.proofs.lemmas.Bool.{cond-true, cond-false}
-use Rattle.meaning.specs.Hosts.{Taken, took, stopped}
+use Rattle.meaning.specs.Hosts.{took, stopped}
 use Rattle.sinks.specs.Sinks.{page}
 use Rattle.sinks.specs.SinkLaws.{page_is_lawful}
 use Rattle.sinks.specs.States.{written}

@@ -12,7 +12,7 @@ fn a_page_takes_what_fits_exactly(rt: HostRuntime) {
     assert_eq!(rt; page.offer(b"abcd"), Ok(()));
     assert_eq!(rt; page.offer(b""), Ok(()));
     assert_eq!(rt; page.offer(b"e"), Err(0));
-    assert!(rt; page.bytes() == b"abcd");
+    assert!(rt; page.bytes() == b"abcd".as_slice());
 }
 
 #[test]
@@ -20,7 +20,7 @@ fn a_page_takes_no_part_of_a_piece(rt: HostRuntime) {
     let mut memory = [0; 4];
     let mut page = Page::new(&mut memory);
     assert_eq!(rt; offer_all(&mut page, &[b"abc", b"de", b"f"]), Err(0));
-    assert!(rt; page.bytes() == b"abc");
+    assert!(rt; page.bytes() == b"abc".as_slice());
 }
 
 #[test]
@@ -42,7 +42,7 @@ fn lines_over_bytes(rt: HostRuntime) {
     assert_eq!(rt; sink.count(), 1);
     assert_eq!(rt; sink.beneath().count(), 2);
     let page = sink.into_beneath().into_beneath();
-    assert!(rt; page.bytes() == b"a\n");
+    assert!(rt; page.bytes() == b"a\n".as_slice());
 }
 
 #[test]
@@ -55,7 +55,7 @@ fn bytes_over_lines(rt: HostRuntime) {
     assert_eq!(rt; sink.offer(b"\n\n"), Err(1));
     assert_eq!(rt; sink.offer(b"abc"), Err(0));
     assert_eq!(rt; sink.offer(b"a\n"), Ok(()));
-    assert!(rt; page.bytes() == b"a\n");
+    assert!(rt; page.bytes() == b"a\n".as_slice());
 }
 
 #[test]

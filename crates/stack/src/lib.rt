@@ -50,7 +50,7 @@ mod tests {
         }
         assert!(rt; stack.newest(5).is_none());
         assert!(rt; stack.newest(0).ok_or("none")?.is_empty());
-        assert!(rt; stack.newest(2).ok_or("too few")? == &[3, 4]);
+        assert!(rt; stack.newest(2).ok_or("too few")? == [3, 4].as_slice());
         stack.discard(2);
         assert_eq!(rt; stack.top(), Some(2));
         stack.truncate(1);

@@ -1,4 +1,4 @@
-use Rattle.std.proofs.Common.{sym, arith}
+use Rattle.std.proofs.Common.{arith}
 use Rattle.std.proofs.lemmas.List.{at_drop_all}
 use Rattle.meaning.specs.Sinks.{line_feeds}
 use Rattle.sinks.proofs.Feeds.{feed, no_feed}
