@@ -29,7 +29,7 @@ fn check_literal(tree: &[u8], pos: usize) -> Result<usize, Refusal>
 }
 
 /// The position after the expression at `pos`, which has at most so many levels.
-#[cycle(check_args_check_base_check_expr_check_inside_check_pairs)]
+#[cycle(expressions)]
 fn check_expr(source: &[u8], tree: &[u8], pos: usize, levels: usize) -> Result<usize, Refusal>
     requires { pos ≤ length tree.now }
     ensures same { reached tree.now result ≡ ended (expr_within source.now levels (drop pos tree.now)) }
@@ -49,7 +49,7 @@ fn check_expr(source: &[u8], tree: &[u8], pos: usize, levels: usize) -> Result<u
 }
 
 /// The same of an expression other than a filter.
-#[cycle(check_args_check_base_check_expr_check_inside_check_pairs)]
+#[cycle(expressions)]
 fn check_base(source: &[u8], tree: &[u8], pos: usize, levels: usize) -> Result<usize, Refusal>
     requires { pos ≤ length tree.now }
     ensures same { reached tree.now result ≡ ended (base_within source.now levels (drop pos tree.now)) }
@@ -63,7 +63,7 @@ fn check_base(source: &[u8], tree: &[u8], pos: usize, levels: usize) -> Result<u
 }
 
 /// The children of the command at `pos`, which begin at `next`.
-#[cycle(check_args_check_base_check_expr_check_inside_check_pairs)]
+#[cycle(expressions)]
 fn check_inside(
     source: &[u8],
     tree: &[u8],
@@ -88,7 +88,7 @@ fn check_inside(
 }
 
 /// The position after `count` expressions other than filters.
-#[cycle(check_args_check_base_check_expr_check_inside_check_pairs)]
+#[cycle(expressions)]
 fn check_args(
     source: &[u8],
     tree: &[u8],
@@ -108,7 +108,7 @@ fn check_args(
 }
 
 /// The pairs of the map at `start`, from the first pair's value on, and `more` pairs after it.
-#[cycle(check_args_check_base_check_expr_check_inside_check_pairs)]
+#[cycle(expressions)]
 fn check_pairs(
     source: &[u8],
     tree: &[u8],
@@ -144,7 +144,7 @@ fn check_whole(source: &[u8], tree: &[u8], pos: usize) -> Result<usize, Refusal>
 }
 
 /// The position after the scope at `pos`, in which if, for and with nest at most so many levels.
-#[cycle(check_block_check_branches_check_nested_check_scope_check_stmt)]
+#[cycle(statements)]
 pub(crate) fn check_scope(
     source: &[u8],
     tree: &[u8],
@@ -168,7 +168,7 @@ pub(crate) fn check_scope(
 }
 
 /// The children of the statement at `pos`, which begin at `next`.
-#[cycle(check_block_check_branches_check_nested_check_scope_check_stmt)]
+#[cycle(statements)]
 fn check_stmt(
     source: &[u8],
     tree: &[u8],
@@ -195,7 +195,7 @@ fn check_stmt(
 }
 
 /// An expression and a block, if there is room for a block.
-#[cycle(check_block_check_branches_check_nested_check_scope_check_stmt)]
+#[cycle(statements)]
 fn check_nested(
     source: &[u8],
     tree: &[u8],
@@ -214,7 +214,7 @@ fn check_nested(
 }
 
 /// An expression and two blocks, if there is room for a block.
-#[cycle(check_block_check_branches_check_nested_check_scope_check_stmt)]
+#[cycle(statements)]
 fn check_branches(
     source: &[u8],
     tree: &[u8],
@@ -235,7 +235,7 @@ fn check_branches(
 }
 
 /// An expression and the statements of a block.
-#[cycle(check_block_check_branches_check_nested_check_scope_check_stmt)]
+#[cycle(statements)]
 fn check_block(source: &[u8], tree: &[u8], pos: usize, levels: usize) -> Result<usize, Refusal>
     requires { pos ≤ length tree.now }
     ensures same { reached tree.now result ≡ ended (then_block source.now (scope_within source.now levels) (drop pos tree.now)) }

@@ -69,7 +69,7 @@ fn push_apply(instrs: &mut [Instr], at: Compiler, operands: usize, arity: u8) ->
 }
 
 /// An expression.
-#[cycle(compile_args_compile_base_expr_compile_behind_compile_expr_compile_items_compile_pairs)]
+#[cycle(expressions)]
 fn compile_expr(tree: &[u8], instrs: &mut [Instr], pos: usize, len: usize) -> Compiler
     requires room { Room tree.now pos len }
     requires there { Over (λ s. ExprThere s tree.now pos) }
@@ -89,7 +89,7 @@ fn compile_expr(tree: &[u8], instrs: &mut [Instr], pos: usize, len: usize) -> Co
 }
 
 /// An expression other than a filter.
-#[cycle(compile_args_compile_base_expr_compile_behind_compile_expr_compile_items_compile_pairs)]
+#[cycle(expressions)]
 fn compile_base_expr(tree: &[u8], instrs: &mut [Instr], pos: usize, len: usize) -> Compiler
     requires room { Room tree.now pos len }
     requires there { Over (λ s. BaseThere s tree.now pos) }
@@ -102,7 +102,7 @@ fn compile_base_expr(tree: &[u8], instrs: &mut [Instr], pos: usize, len: usize) 
 }
 
 /// The same, whose command stands at `start`, from behind it on.
-#[cycle(compile_args_compile_base_expr_compile_behind_compile_expr_compile_items_compile_pairs)]
+#[cycle(expressions)]
 fn compile_behind(
     tree: &[u8],
     instrs: &mut [Instr],
@@ -150,7 +150,7 @@ fn compile_behind(
 }
 
 /// As many expressions other than filters as are counted.
-#[cycle(compile_args_compile_base_expr_compile_behind_compile_expr_compile_items_compile_pairs)]
+#[cycle(expressions)]
 fn compile_args(tree: &[u8], instrs: &mut [Instr], pos: usize, len: usize, count: u8) -> Compiler
     requires room { Room tree.now pos len }
     requires there { Over (λ s. ArgsThere s tree.now count pos) }
@@ -164,7 +164,7 @@ fn compile_args(tree: &[u8], instrs: &mut [Instr], pos: usize, len: usize, count
 }
 
 /// The same, each pushed onto a list.
-#[cycle(compile_args_compile_base_expr_compile_behind_compile_expr_compile_items_compile_pairs)]
+#[cycle(expressions)]
 fn compile_items(tree: &[u8], instrs: &mut [Instr], pos: usize, len: usize, count: u8) -> Compiler
     requires room { Room tree.now pos len }
     requires there { Over (λ s. ArgsThere s tree.now count pos) }
@@ -180,7 +180,7 @@ fn compile_items(tree: &[u8], instrs: &mut [Instr], pos: usize, len: usize, coun
 }
 
 /// As many pairs as are counted, each inserted into a map.
-#[cycle(compile_args_compile_base_expr_compile_behind_compile_expr_compile_items_compile_pairs)]
+#[cycle(expressions)]
 fn compile_pairs(tree: &[u8], instrs: &mut [Instr], pos: usize, len: usize, count: u8) -> Compiler
     requires room { Room tree.now pos len }
     requires there { Over (λ s. PairsThere s tree.now count pos) }
@@ -239,7 +239,7 @@ fn jump_past(negated: bool) -> Op
 }
 
 /// The statements of a scope, up to their end.
-#[cycle(compile_loop_compile_scope_compile_stmt)]
+#[cycle(statements)]
 pub fn compile_scope(tree: &[u8], instrs: &mut [Instr], pos: usize, len: usize) -> Compiler
     requires room { Room tree.now pos len }
     requires there { Over (λ s. ScopeThere s tree.now pos) }
@@ -261,7 +261,7 @@ pub fn compile_scope(tree: &[u8], instrs: &mut [Instr], pos: usize, len: usize) 
 }
 
 /// A statement whose command stands at `start`, from behind it on.
-#[cycle(compile_loop_compile_scope_compile_stmt)]
+#[cycle(statements)]
 fn compile_stmt(
     tree: &[u8],
     instrs: &mut [Instr],
@@ -324,7 +324,7 @@ fn compile_stmt(
 }
 
 /// A loop whose command stands at `start`, from behind it on.
-#[cycle(compile_loop_compile_scope_compile_stmt)]
+#[cycle(statements)]
 fn compile_loop(tree: &[u8], instrs: &mut [Instr], start: usize, pos: usize, len: usize) -> Compiler
     requires room { Room tree.now start len }
     requires there { Over (λ s. LoopOver s tree.now start pos) }

@@ -7,7 +7,7 @@ use Rattle.meaning.specs.declared.tree.Span.{Span}
 use Rattle.meaning.specs.Tree.{LoopVars, Item, KeyValue}
 use Rattle.program.specs.Program as program
 use Rattle.reader.specs.Fields.{members_of, text_of}
-use Rattle.reader.specs.Meanings.{eight_bytes, plain_of}
+use Rattle.reader.specs.Meanings.{EightBytes, plain_of}
 use Rattle.decoder.specs.declared.decoded.Decoded.{Decoded}
 use Rattle.decoder.specs.declared.decoded.Decoded.TheVariants as instr
 use Rattle.decoder.specs.declared.decoded.LoopVars as decoded
@@ -58,27 +58,27 @@ meaning (Some d) = decoded_instr d
 meaning None = none
 
 -- a variable has some member, and a number of a literal its eight bytes
-abbrev pub sound : Decoded → Type 0
-sound (instr.Jump t) = Unit {0}
-sound (instr.JumpIfTrue t) = Unit {0}
-sound (instr.JumpIfFalse t) = Unit {0}
-sound instr.Emit = Unit {0}
-sound (instr.EmitRaw s) = Unit {0}
-sound (instr.EmitWith name n whole) = Unit {0}
-sound (instr.LoopStart vars iterable) = Unit {0}
-sound (instr.LoopNext t) = Unit {0}
-sound (instr.WithStart name) = Unit {0}
-sound instr.WithEnd = Unit {0}
-sound (instr.Include name) = Unit {0}
-sound (instr.IncludeWith name) = Unit {0}
-sound (instr.ExprStartVar ms) = 1 ≤ length (members_of ms)
-sound (instr.ExprStartLiteral s v) = eight_bytes v
-sound (instr.ExprStartList s) = Unit {0}
-sound (instr.ExprStartMap s) = Unit {0}
-sound instr.ExprListPush = Unit {0}
-sound (instr.ExprMapInsert key) = Unit {0}
-sound (instr.Apply name n whole) = Unit {0}
+abbrev pub IsSound : Decoded → Type 0
+IsSound (instr.Jump t) = Unit {0}
+IsSound (instr.JumpIfTrue t) = Unit {0}
+IsSound (instr.JumpIfFalse t) = Unit {0}
+IsSound instr.Emit = Unit {0}
+IsSound (instr.EmitRaw s) = Unit {0}
+IsSound (instr.EmitWith name n whole) = Unit {0}
+IsSound (instr.LoopStart vars iterable) = Unit {0}
+IsSound (instr.LoopNext t) = Unit {0}
+IsSound (instr.WithStart name) = Unit {0}
+IsSound instr.WithEnd = Unit {0}
+IsSound (instr.Include name) = Unit {0}
+IsSound (instr.IncludeWith name) = Unit {0}
+IsSound (instr.ExprStartVar ms) = 1 ≤ length (members_of ms)
+IsSound (instr.ExprStartLiteral s v) = EightBytes v
+IsSound (instr.ExprStartList s) = Unit {0}
+IsSound (instr.ExprStartMap s) = Unit {0}
+IsSound instr.ExprListPush = Unit {0}
+IsSound (instr.ExprMapInsert key) = Unit {0}
+IsSound (instr.Apply name n whole) = Unit {0}
 
 abbrev pub Sound : code.Option Decoded → Type 0
-Sound (Some d) = sound d
+Sound (Some d) = IsSound d
 Sound None = Unit {0}

@@ -4,7 +4,7 @@ ghost use Rattle.std.specs.Prelude.{◌≡◌, ◌∷◌};
 ghost use Rattle.meaning.specs.Charge.{cell_and_text, charge, cost, one_cell};
 ghost use Rattle.meaning.specs.Value.{list, map, no_entries, no_items};
 ghost use Rattle.stack.specs.Entries.{Kept, entries};
-ghost use Rattle.reader.specs.Meanings.{eight_bytes, plain_of};
+ghost use Rattle.reader.specs.Meanings.{EightBytes, plain_of};
 ghost use Rattle.store.specs.Stores.{Made, supply, used};
 ghost use Rattle.store.specs.Values.{inserted, pushed};
 ghost use Rattle.hosts.specs.Answers.{AllKnown};
@@ -60,7 +60,7 @@ pub fn start_map(values: &mut Stack<Argument>, store: &mut Store, span: Span) ->
 
 /// Makes a literal's value.
 fn make_literal(store: &mut Store, value: PlainValue) -> Result<Ref, Full>
-    requires { eight_bytes value }
+    requires { EightBytes value }
     ensures { Made store.old store.new (cost (plain_of value.entry)) (plain_of value.entry) result }
 {
     match value {
@@ -81,7 +81,7 @@ pub fn start_literal(
 ) -> Result<(), Fault>
     requires spare { Spare values.old }
     requires known { AllKnown store.old (entries values.old) }
-    requires eight { eight_bytes value }
+    requires eight { EightBytes value }
     ensures kept { Kept values.old values.new }
     ensures pushes { Pushes store.old store.new (entries values.old) (entries values.new) span (charge (supply store.old) span (cost (plain_of value.entry)) (plain_of value.entry) (used store.old)) result }
 {

@@ -2,7 +2,7 @@
 
 ghost use Rattle.job.specs.Lines.{Lies, MembersLie, Wrote, escape, indent, indented, label_line, mark, marks, members_line, quoted, span_line, spans_line, string_line, value_line, value_text};
 ghost use Rattle.reader.specs.Fields.{members_of, text_of};
-ghost use Rattle.reader.specs.Meanings.{eight_bytes, plain_of};
+ghost use Rattle.reader.specs.Meanings.{EightBytes, plain_of};
 
 use meaning::tree::Span;
 use reader::field::{Members, PackedText, read_member};
@@ -178,7 +178,7 @@ pub fn put_members_line(
 
 /// A literal's value.
 fn put_value(heap: Global, value: PlainValue, out: &mut Vec<u8>) -> Result<(), AllocError>
-    requires { eight_bytes value }
+    requires { EightBytes value }
     ensures { Wrote (value_text (plain_of value.entry)) result out.old.items out.new.items }
 {
     match value {
@@ -209,7 +209,7 @@ pub fn put_value_line(
     value: PlainValue,
     out: &mut Vec<u8>,
 ) -> Result<(), AllocError>
-    requires { eight_bytes value }
+    requires { EightBytes value }
     ensures { Wrote (value_line depth (plain_of value.entry)) result out.old.items out.new.items }
 {
     put_label(out, depth, b"value ")?;

@@ -26,7 +26,7 @@ use reader::literal::plain_value;
 use std::alloc::{AllocError, Global};
 
 /// An expression.
-#[cycle(outline_args_outline_base_outline_behind_outline_expr_outline_pairs)]
+#[cycle(expressions)]
 fn outline_expr(
     heap: Global,
     source: &[u8],
@@ -53,7 +53,7 @@ fn outline_expr(
 }
 
 /// An expression other than a filter.
-#[cycle(outline_args_outline_base_outline_behind_outline_expr_outline_pairs)]
+#[cycle(expressions)]
 fn outline_base(
     heap: Global,
     source: &[u8],
@@ -73,7 +73,7 @@ fn outline_base(
 }
 
 /// An expression other than a filter, from behind its command on.
-#[cycle(outline_args_outline_base_outline_behind_outline_expr_outline_pairs)]
+#[cycle(expressions)]
 fn outline_behind(
     heap: Global,
     source: &[u8],
@@ -141,7 +141,7 @@ fn outline_value(
 }
 
 /// As many expressions other than filters as are counted.
-#[cycle(outline_args_outline_base_outline_behind_outline_expr_outline_pairs)]
+#[cycle(expressions)]
 fn outline_args(
     heap: Global,
     source: &[u8],
@@ -163,7 +163,7 @@ fn outline_args(
 }
 
 /// As many pairs of a map as are counted.
-#[cycle(outline_args_outline_base_outline_behind_outline_expr_outline_pairs)]
+#[cycle(expressions)]
 fn outline_pairs(
     heap: Global,
     source: &[u8],
@@ -196,7 +196,7 @@ fn if_label(negated: bool) -> &'static [u8]
 }
 
 /// The statements of a scope, up to their end.
-#[cycle(outline_nested_outline_scope_outline_stmt)]
+#[cycle(statements)]
 fn outline_scope(
     heap: Global,
     source: &[u8],
@@ -224,7 +224,7 @@ fn outline_scope(
 }
 
 /// A statement, from behind its command on.
-#[cycle(outline_nested_outline_scope_outline_stmt)]
+#[cycle(statements)]
 fn outline_stmt(
     heap: Global,
     source: &[u8],
@@ -281,7 +281,7 @@ fn outline_stmt(
 }
 
 /// The expression of a block, a label, and the statements of the block.
-#[cycle(outline_nested_outline_scope_outline_stmt)]
+#[cycle(statements)]
 fn outline_nested(
     heap: Global,
     source: &[u8],

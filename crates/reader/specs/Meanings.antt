@@ -53,14 +53,14 @@ plain_of (plain.Float b) = float (from_little_endian 8 b.now)
 plain_of (plain.String b) = string b.now
 
 -- the numbers have eight bytes
-abbrev pub eight_bytes : PlainValue → Type 0
-eight_bytes plain.Nothing = Unit {0}
-eight_bytes plain.False = Unit {0}
-eight_bytes plain.True = Unit {0}
-eight_bytes (plain.Integer b) = length b.now ≡ 8
-eight_bytes (plain.Float b) = length b.now ≡ 8
-eight_bytes (plain.String b) = Unit {0}
+abbrev pub EightBytes : PlainValue → Type 0
+EightBytes plain.Nothing = Unit {0}
+EightBytes plain.False = Unit {0}
+EightBytes plain.True = Unit {0}
+EightBytes (plain.Integer b) = length b.now ≡ 8
+EightBytes (plain.Float b) = length b.now ≡ 8
+EightBytes (plain.String b) = Unit {0}
 
 abbrev pub Eight : Option (PlainValue × ℕ) → Type 0
-Eight (Some r) = eight_bytes r.0
+Eight (Some r) = EightBytes r.0
 Eight None = Unit {0}

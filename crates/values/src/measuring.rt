@@ -52,7 +52,7 @@ fn refuse_map(bytes: &[u8], start: usize, pos: usize, count: u16) -> Refusal
 }
 
 /// The value at `pos`, which may have so many levels.
-#[cycle(measure_entries_measure_items_measure_list_measure_map_measure_value)]
+#[cycle(parts)]
 fn measure_value(bytes: &[u8], pos: usize, levels: usize) -> Result<(Cost, usize), Refusal>
     requires { pos ≤ length bytes.now }
     ensures same { heard charge_of bytes.now result ≡ weigh cost (value_within levels (drop pos bytes.now)) }
@@ -69,7 +69,7 @@ fn measure_value(bytes: &[u8], pos: usize, levels: usize) -> Result<(Cost, usize
 }
 
 /// The list at `start`, whose count stands at `pos`.
-#[cycle(measure_entries_measure_items_measure_list_measure_map_measure_value)]
+#[cycle(parts)]
 fn measure_list(
     bytes: &[u8],
     start: usize,
@@ -92,7 +92,7 @@ fn measure_list(
 }
 
 /// So many items of a list.
-#[cycle(measure_entries_measure_items_measure_list_measure_map_measure_value)]
+#[cycle(parts)]
 fn measure_items(
     bytes: &[u8],
     pos: usize,
@@ -114,7 +114,7 @@ fn measure_items(
 }
 
 /// The map at `start`, whose count stands at `pos`.
-#[cycle(measure_entries_measure_items_measure_list_measure_map_measure_value)]
+#[cycle(parts)]
 fn measure_map(
     bytes: &[u8],
     start: usize,
@@ -137,7 +137,7 @@ fn measure_map(
 }
 
 /// So many entries of the map at `start`. A fault in a key is the map's.
-#[cycle(measure_entries_measure_items_measure_list_measure_map_measure_value)]
+#[cycle(parts)]
 fn measure_entries(
     bytes: &[u8],
     start: usize,

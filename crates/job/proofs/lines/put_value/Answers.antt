@@ -1,11 +1,11 @@
 use Rattle.std.proofs.Common.{ℕ, ◌++◌, codes, decimal, ap, ◌∙◌, subst}
-use Rattle.reader.specs.Meanings.{eight_bytes}
+use Rattle.reader.specs.Meanings.{EightBytes}
 use Rattle.job.proofs.Writing.{then_wrote, wrote_same}
 use Rattle.job.proofs.lines.put_value.Goals as goal
 
 pub returns-in_ok-text-in-Float : goal.returns-in_ok-text-in-Float
 returns-in_ok-text-in-Float c =
-    let bits = c.bits_of-bits.ensures (subst eight_bytes c.in-Float.is c.requires) in
+    let bits = c.bits_of-bits.ensures (subst EightBytes c.in-Float.is c.requires) in
     rw c.in-Float.is
     (wrote_same c.put-in-Float.result (c.as_bytes-in-Float.ensures.value ∙ c.in_ok-text-in-Float.ensures.ok ∙ ap (λ (n : ℕ). codes "float of bits " ++ decimal n) bits) c.put-in-Float.ensures)
 

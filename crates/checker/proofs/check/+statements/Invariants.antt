@@ -2,7 +2,7 @@
 use Rattle.std.proofs.Common.{◌≡◌, ◌+◌, ◌-◌, ◌*◌, ◌≤◌, length, drop}
 use Rattle.packing.specs.Unpacking.{scope_within}
 use Rattle.reader.specs.Fields.{ended}
-use Rattle.checker.proofs.check.+check_block_check_branches_check_nested_check_scope_check_stmt.Given as goal
+use Rattle.checker.proofs.check.+statements.Given as goal
 
 abbrev pub decreases-check_block : goal.decreases-check_block
 decreases-check_block l = 8 * l.levels + 4

@@ -12,7 +12,7 @@ use Rattle.compiler.specs.declared.compile.Compiler.{Compiler}
 use Rattle.compiler.specs.Compiled.{Made, StmtMade, jump_record}
 use Rattle.compiler.proofs.Rows.{CodeLeft, code_start, scope_more, scope_all}
 use Rattle.compiler.proofs.StmtArms.{block_room, scope_room, stmt_room, stmt_over, StmtOverHere, inline_expr, include_expr, if_expr, if_scope, choice_expr, choice_scope, else_scope, with_expr, with_scope, loop_expr, loop_scope, item_loop, pair_loop, raw_arm, include_arm, inline_arm, include_with_arm, if_arm, if_else_arm, with_arm, loop_arm, item_arm, pair_arm}
-use Rattle.compiler.proofs.compile.+compile_loop_compile_scope_compile_stmt.Goals as goal
+use Rattle.compiler.proofs.compile.+statements.Goals as goal
 
 pub compile_loop-compile_expr-iterable-requires : goal.compile_loop-compile_expr-iterable-requires
 compile_loop-compile_expr-iterable-requires t c =

@@ -4,7 +4,7 @@ use Rattle.program.specs.Program.{compile_args, compile_items}
 use Rattle.checker.specs.There.{ArgsThere, PairsThere}
 use Rattle.compiler.specs.Compiled.{Over}
 use Rattle.compiler.proofs.Rows.{ArgsLeft, PairsLeft}
-use Rattle.compiler.proofs.compile.+compile_args_compile_base_expr_compile_behind_compile_expr_compile_items_compile_pairs.Given as goal
+use Rattle.compiler.proofs.compile.+expressions.Given as goal
 
 -- the bytes left, and then a rank where a call does not move on
 abbrev pub decreases-compile_args : goal.decreases-compile_args

@@ -13,7 +13,7 @@ use Rattle.compiler.proofs.Means.{made_on}
 use Rattle.compiler.proofs.Arms.{expr_room, base_room, args_room, moved_one, base_step, filter_step, base_over, base_arm, base_expr_arm, filter_arm, receiver_over, args_over, HeadedOver, literal_over, list_over, value_over, pairs_over, paren_over, call_over, variable_arm, literal_arm, list_arm, empty_map_arm, paren_arm, call_arm, map_arm}
 use Rattle.compiler.proofs.Operands.{string_means}
 use Rattle.compiler.proofs.Rows.{item_code, args_law, items_law, args_none, items_none, args_more, args_all, pairs_more, pairs_all, code_start}
-use Rattle.compiler.proofs.compile.+compile_args_compile_base_expr_compile_behind_compile_expr_compile_items_compile_pairs.Goals as goal
+use Rattle.compiler.proofs.compile.+expressions.Goals as goal
 
 pub compile_args-loop-arg-init : goal.compile_args-loop-arg-init
 compile_args-loop-arg-init t c =

@@ -7,7 +7,7 @@ use Rattle.values.specs.Costs.{charge_of}
 use Rattle.values.specs.Keys.{key_before}
 use Rattle.values.specs.Measures.{Ends, weigh}
 use Rattle.values.proofs.Sums.{after}
-use Rattle.values.proofs.measuring.+measure_entries_measure_items_measure_list_measure_map_measure_value.Given as goal
+use Rattle.values.proofs.measuring.+parts.Given as goal
 
 abbrev pub decreases-measure_value : goal.decreases-measure_value
 decreases-measure_value l = 3 * l.levels + 2

@@ -2,7 +2,7 @@ use Rattle.std.proofs.Common.{◌≡◌, suc, ◌-◌, length, refl, ◌∙◌, 
 use Rattle.std.proofs.lemmas.Result.{err_from_is_err_and}
 use Rattle.packing.specs.Unpacking.{args, base_within}
 use Rattle.checker.proofs.Rests.{expr_refused, expr_too_deep, expr_goes_on, base_refused, base_too_deep, base_goes_on, after_read, after_refused, args_step, args_stop, args_end, pairs_cut, pairs_misplaced, pairs_stop, pairs_step, pairs_end, moves_weaker, expr_at}
-use Rattle.checker.proofs.check.+check_args_check_base_check_expr_check_inside_check_pairs.Goals as goal
+use Rattle.checker.proofs.check.+expressions.Goals as goal
 
 pub check_args-loop-arg-init : goal.check_args-loop-arg-init
 check_args-loop-arg-init t c = (omega arith, c.requires, (c.args.count, omega arith, refl))

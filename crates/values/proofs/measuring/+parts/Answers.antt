@@ -10,7 +10,7 @@ use Rattle.values.proofs.Sums.{after, from_nothing}
 use Rattle.values.proofs.Starts.{value_cut, value_list, value_map, value_plain}
 use Rattle.values.proofs.Lists.{items_more, items_stop, items_end, list_cut, list_too_deep, list_stops, list_costs}
 use Rattle.values.proofs.Maps.{entries_cut, entries_stop, entries_more, entries_end, map_cut, map_too_deep, map_stops, map_costs}
-use Rattle.values.proofs.measuring.+measure_entries_measure_items_measure_list_measure_map_measure_value.Goals as goal
+use Rattle.values.proofs.measuring.+parts.Goals as goal
 
 -- VALUES
 

@@ -3,7 +3,7 @@ use Rattle.std.proofs.Common.{◌≡◌, ℕ, ◌+◌, ◌-◌, ◌*◌, ◌≤�
 use Rattle.packing.specs.Unpacking.{args, base_within, pairs}
 use Rattle.reader.specs.Fields.{ended}
 use Rattle.checker.specs.Rests.{from_first}
-use Rattle.checker.proofs.check.+check_args_check_base_check_expr_check_inside_check_pairs.Given as goal
+use Rattle.checker.proofs.check.+expressions.Given as goal
 
 abbrev pub decreases-check_expr : goal.decreases-check_expr
 decreases-check_expr l = 3 * l.levels

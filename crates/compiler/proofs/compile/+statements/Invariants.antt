@@ -3,7 +3,7 @@ use Rattle.packing.specs.Packing.{pack}
 use Rattle.checker.specs.There.{ScopeThere}
 use Rattle.compiler.specs.Compiled.{Over}
 use Rattle.compiler.proofs.Rows.{ScopeLeft}
-use Rattle.compiler.proofs.compile.+compile_loop_compile_scope_compile_stmt.Given as goal
+use Rattle.compiler.proofs.compile.+statements.Given as goal
 
 -- the bytes left, and then a rank where a call does not move on
 abbrev pub decreases-compile_scope : goal.decreases-compile_scope

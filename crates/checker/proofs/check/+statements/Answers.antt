@@ -1,7 +1,7 @@
 use Rattle.std.proofs.Common.{◌≡◌, ◌-◌, ◌≤◌, length, drop, ◌∙◌, arith, length-drop}
 use Rattle.std.proofs.lemmas.Result.{err_from_is_err_and}
 use Rattle.checker.proofs.Statements.{scope_refused, scope_ends, scope_stops, scope_steps, scope_at}
-use Rattle.checker.proofs.check.+check_block_check_branches_check_nested_check_scope_check_stmt.Goals as goal
+use Rattle.checker.proofs.check.+statements.Goals as goal
 
 pub check_scope-returns-in_err-command : goal.check_scope-returns-in_err-command
 check_scope-returns-in_err-command t c =
