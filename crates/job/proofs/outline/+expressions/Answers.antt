@@ -12,7 +12,7 @@ use Rattle.job.specs.Outline.{outline_base}
 use Rattle.job.proofs.Arms.{lies, members_lie, outlined_end, outlined_then, behind_arm, base_arm, filter_arm}
 use Rattle.job.proofs.Rows.{args_more, args_all, pairs_more, pairs_all, string_some}
 use Rattle.job.proofs.Writing.{adds_nothing, then_adds, adds_same}
-use Rattle.job.proofs.outline.+outline_args_outline_base_outline_behind_outline_expr_outline_pairs.Goals as goal
+use Rattle.job.proofs.outline.+expressions.Goals as goal
 
 pub outline_expr-unreachable-requires : goal.outline_expr-unreachable-requires
 outline_expr-unreachable-requires t c =

@@ -2,7 +2,7 @@ use Rattle.std.proofs.Common.{◌+◌, ◌-◌, ◌*◌, ◌≤◌, length, vec_
 use Rattle.packing.specs.Packing.{pack_args, pack_pairs}
 use Rattle.checker.specs.There.{ArgsThere, PairsThere}
 use Rattle.job.proofs.Rows.{ArgsLeft, PairsLeft}
-use Rattle.job.proofs.outline.+outline_args_outline_base_outline_behind_outline_expr_outline_pairs.Given as goal
+use Rattle.job.proofs.outline.+expressions.Given as goal
 
 -- the bytes left, and then a rank where a call does not move on
 abbrev pub decreases-outline_args : goal.decreases-outline_args

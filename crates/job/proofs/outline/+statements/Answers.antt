@@ -12,7 +12,7 @@ use Rattle.job.specs.Outline.{outline_stmt}
 use Rattle.job.proofs.Arms.{lies, outlined_end, outlined_then, stmt_arm}
 use Rattle.job.proofs.Rows.{scope_more, scope_all}
 use Rattle.job.proofs.Writing.{then_adds, adds_same}
-use Rattle.job.proofs.outline.+outline_nested_outline_scope_outline_stmt.Goals as goal
+use Rattle.job.proofs.outline.+statements.Goals as goal
 
 pub outline_nested-outline_expr-requires : goal.outline_nested-outline_expr-requires
 outline_nested-outline_expr-requires t c =

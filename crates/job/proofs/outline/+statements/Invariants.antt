@@ -2,7 +2,7 @@ use Rattle.std.proofs.Common.{◌+◌, ◌-◌, ◌*◌, ◌≤◌, length, vec_
 use Rattle.packing.specs.Packing.{pack}
 use Rattle.checker.specs.There.{ScopeThere}
 use Rattle.job.proofs.Rows.{ScopeLeft}
-use Rattle.job.proofs.outline.+outline_nested_outline_scope_outline_stmt.Given as goal
+use Rattle.job.proofs.outline.+statements.Given as goal
 
 -- the bytes left, and then a rank where a call does not move on
 abbrev pub decreases-outline_scope : goal.decreases-outline_scope
