@@ -4,7 +4,7 @@
 ghost use Rattle.std.specs.Prelude.{◌≡◌, map as each};
 ghost use Rattle.meaning.specs.Scopes.{ask};
 ghost use Rattle.meaning.specs.Sources.{walk_of};
-ghost use Rattle.meaning.specs.Walk.{index, key as by-text, part, part_at, walk};
+ghost use Rattle.meaning.specs.Walk.{index, key as by_text, part, part_at, walk};
 ghost use Rattle.reader.specs.Fields.{members_of};
 ghost use Rattle.store.specs.Stores.{Known, value};
 ghost use Rattle.lookup.specs.Paths.{Answers, Tells, answered};
@@ -67,7 +67,7 @@ fn by_index(store: &Store, from: Ref, number: usize, member: Member) -> Result<O
 
 fn by_key(store: &Store, from: Ref, key: &[u8], member: Member) -> Result<Option<Ref>, Fault>
     requires { Known store.now from }
-    ensures { Tells store.now (part_at member member.op (value store.now from) (by-text key.now)) result }
+    ensures { Tells store.now (part_at member member.op (value store.now from) (by_text key.now)) result }
 {
     match store.kind(from) {
         Kind::Map => {

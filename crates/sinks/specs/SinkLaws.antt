@@ -1,6 +1,6 @@
 -- The page, the counter and the limits keep to the laws of sinks.
 use Rattle.std.proofs.Common.{◌≡◌, ℕ, suc, ◌+◌, ◌-◌, ◌^◌, ◌≤◌, Bool, true, false, cond, eqb, List, [], ◌∷◌, ◌++◌, length, sym, refl, ap, ◌∙◌, subst, append_assoc, append-nil, add-zero, add_assoc, suc-add, zero-add, arith, lit≤, length-append}
-use lib.Dec.{leb-zero}
+use Rattle.std.proofs.Math.Dec.{leb-zero}
 use Rattle.meaning.specs.Hosts.{Sink, Lawful, Taken, took, stopped, Alike, after, AtMost}
 use Rattle.meaning.specs.Sinks.{fits, counter, Counts, line_feeds, level_above}
 use Rattle.sinks.specs.Sinks.{page, Written, Limited, counted, limited, Additive}

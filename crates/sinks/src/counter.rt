@@ -1,5 +1,5 @@
 ghost use Rattle.std.specs.Prelude.{◌≡◌, ◌≤◌};
-ghost use Rattle.meaning.specs.Sinks.{counter as counter-sink};
+ghost use Rattle.meaning.specs.Sinks.{counter as counter_sink};
 ghost use Rattle.sinks.specs.SinkLaws.{counter_is_lawful};
 ghost use Rattle.sinks.specs.States.{counts};
 
@@ -36,7 +36,7 @@ impl Counter {
 }
 
 impl Sink for Counter {
-    ghost sink = { counter-sink };
+    ghost sink = { counter_sink };
 
     ghost state = { λ c. counts c.bytes c.lines };
 

@@ -1,5 +1,5 @@
 ghost use Rattle.std.specs.Prelude.{◌≡◌};
-ghost use Rattle.sinks.specs.Sinks.{page as page-sink};
+ghost use Rattle.sinks.specs.Sinks.{page as page_sink};
 ghost use Rattle.sinks.specs.SinkLaws.{page_is_lawful};
 ghost use Rattle.sinks.specs.States.{written};
 
@@ -31,7 +31,7 @@ impl<'a> Page<'a> {
 }
 
 impl Sink for Page<'_> {
-    ghost sink = { page-sink };
+    ghost sink = { page_sink };
 
     ghost state = { λ p. written p.memory.now p.used };
 

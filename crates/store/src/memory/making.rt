@@ -2,7 +2,7 @@
 
 ghost use Rattle.std.specs.Prelude.{◌≡◌, ◌+◌, ◌<◌, ◌≤◌, true, ◌++◌, length, take, slice_index_or};
 ghost use Rattle.meaning.specs.Charge.{◌⊕◌, cell_and_text, cost, one_cell, within};
-ghost use Rattle.meaning.specs.Value.{Value, boolean, float, integer, list as the-list, map as the-map, no_entries, no_items, none, string};
+ghost use Rattle.meaning.specs.Value.{Value, boolean, float, integer, list as the_list, map as the_map, no_entries, no_items, none, string};
 ghost use Rattle.store.specs.Cells.{at_span, fits, of_cell};
 ghost use Rattle.store.specs.Kinds.{kind_of};
 ghost use Rattle.store.specs.Stores.{Added, KeyKnown, Known, Made, supply, text_of, used, value, values_of};
@@ -105,7 +105,7 @@ impl Store<'_> {
     }
 
     pub fn empty_list(&mut self) -> Result<Ref, Full>
-        ensures { Made self.old self.new one_cell (the-list no_items) result }
+        ensures { Made self.old self.new one_cell (the_list no_items) result }
     {
         self.make(Cell::EmptyList)
     }
@@ -128,7 +128,7 @@ impl Store<'_> {
     }
 
     pub fn empty_map(&mut self) -> Result<Ref, Full>
-        ensures { Made self.old self.new one_cell (the-map no_entries) result }
+        ensures { Made self.old self.new one_cell (the_map no_entries) result }
     {
         self.make(Cell::EmptyMap)
     }

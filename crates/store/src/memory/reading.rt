@@ -1,7 +1,7 @@
 //! Reading values.
 
 ghost use Rattle.std.specs.Prelude.{◌≡◌, ◌<◌, ◌≤◌, slice_index_or};
-ghost use Rattle.meaning.specs.Value.{none, boolean, float as the_float, integer as the-integer, string};
+ghost use Rattle.meaning.specs.Value.{none, boolean, float as the_float, integer as the_integer, string};
 ghost use Rattle.meaning.specs.Parts.{truth};
 ghost use Rattle.store.specs.Cells.{at_span};
 ghost use Rattle.store.specs.Kinds.{kind_of, size_of};
@@ -102,7 +102,7 @@ impl Store<'_> {
     pub fn integer(&self, r: Ref) -> i64
         requires known { Known self.now r }
         requires is_integer { kind_of (value self.now r) ≡ Kind.Integer }
-        ensures { value self.now r ≡ the-integer result }
+        ensures { value self.now r ≡ the_integer result }
     {
         let Ref::At(at) = r else { unreachable() };
         let Cell::Integer(n) = self.cell(at) else {
