@@ -2,7 +2,6 @@
 
 #![tactic(auto)]
 
-pub mod fault;
 pub mod members;
 pub mod source;
 pub mod walking;

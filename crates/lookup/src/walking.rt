@@ -9,7 +9,6 @@ ghost use Rattle.reader.specs.Fields.{members_of};
 ghost use Rattle.store.specs.Stores.{Known, value};
 ghost use Rattle.lookup.specs.Paths.{Answers, Tells, answered};
 
-use crate::fault::fault_at;
 use crate::members::split_first;
 use crate::source::span_text;
 use meaning::fault::{Cause, Fault};
@@ -58,10 +57,10 @@ fn by_index(store: &Store, from: Ref, number: usize, member: Member) -> Result<O
 {
     match store.kind(from) {
         Kind::List => {
-            let absent = fault_at(Cause::NoSuchIndex, member.span, store.size(from) as usize);
+            let absent = Fault::at(Cause::NoSuchIndex, member.span, store.size(from) as usize);
             or_absent(store.part(from, number), member.op, absent)
         }
-        kind => Err(fault_at(Cause::WrongAccess, member.span, kind.byte() as usize)),
+        kind => Err(Fault::at(Cause::WrongAccess, member.span, kind.byte() as usize)),
     }
 }
 
@@ -71,10 +70,10 @@ fn by_key(store: &Store, from: Ref, key: &[u8], member: Member) -> Result<Option
 {
     match store.kind(from) {
         Kind::Map => {
-            let absent = fault_at(Cause::NoSuchKey, member.span, 0);
+            let absent = Fault::at(Cause::NoSuchKey, member.span, 0);
             or_absent(store.value_of(from, key), member.op, absent)
         }
-        kind => Err(fault_at(Cause::WrongAccess, member.span, kind.byte() as usize)),
+        kind => Err(Fault::at(Cause::WrongAccess, member.span, kind.byte() as usize)),
     }
 }
 

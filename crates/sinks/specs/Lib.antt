@@ -1,5 +1,4 @@
 pub mod Offered
 pub mod States
 pub mod Sinks
-mod Gate
 pub mod SinkLaws

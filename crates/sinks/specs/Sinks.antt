@@ -1,21 +1,27 @@
--- The page and the limits that are layers over any sink, with how much a page holds and what a limit is as parts of their states.
-use Rattle.std.specs.Prelude.{◌≡◌, ℕ, ◌+◌, cond, List, [], ◌++◌, length}
+-- The page and the limits with how much a page holds and what a limit is as parts of their states: they do what the page of that
+-- size and the layer of that limit do.
+use Rattle.std.specs.Prelude.{◌≡◌, ℕ, ◌+◌, List, [], ◌++◌, length}
 use Rattle.meaning.specs.Hosts.{Sink, Taken, took, stopped}
-use Rattle.meaning.specs.Sinks.{fits, line_feeds, level_above}
+use Rattle.meaning.specs.Sinks.{page as page_of, limited as limited_to, line_feeds, level_above}
+
+-- what was done, with the state that is left told in another form
+abbrev pub told_as : {S T : Type 0} → (S → T) → Taken S → Taken T
+told_as form (took s) = took (form s)
+told_as form (stopped level) = stopped level
 
 -- how much a page holds, and the bytes on it
 pub record Written : Type 0 where
   pub size : ℕ
   pub bytes : List ℕ
 
+abbrev pub on_page : (size : ℕ) → List ℕ → Written
+on_page size bytes = record { size = size; bytes = bytes }
+
 abbrev pub page : Sink
 page = record {
   State = Written;
   highest = 0;
-  take = λ there piece.
-      cond (fits there.size (length there.bytes) (length piece))
-      (took (record { size = there.size; bytes = there.bytes ++ piece }))
-      (stopped 0);
+  take = λ there piece. told_as (on_page there.size) ((page_of there.size).take there.bytes piece);
 }
 
 -- the limit of a layer, its count, and the state of the sink beneath
@@ -24,20 +30,14 @@ pub record Limited (M : Type 0) : Type 0 where
   pub count : ℕ
   pub beneath : M
 
--- what a sink did, under a limit and a count
-abbrev pub counted : {M : Type 0} → (limit count : ℕ) → Taken M → Taken (Limited M)
-counted limit count (took m) = took (record { limit = limit; count = count; beneath = m })
-counted limit count (stopped level) = stopped level
+abbrev pub under_limit : {M : Type 0} → (limit : ℕ) → ℕ × M → Limited M
+under_limit limit (count, beneath) = record { limit = limit; count = count; beneath = beneath }
 
--- A limit on some measure of the text, over a sink beneath. Its own count is tested first.
 abbrev pub limited : (measure : List ℕ → ℕ) → Sink → Sink
 limited measure beneath = record {
   State = Limited beneath.State;
   highest = level_above beneath;
-  take = λ there piece.
-      cond (fits there.limit there.count (measure piece))
-      (counted there.limit (there.count + measure piece) (beneath.take there.beneath piece))
-      (stopped (level_above beneath));
+  take = λ there piece. told_as (under_limit there.limit) ((limited_to measure there.limit beneath).take (there.count, there.beneath) piece);
 }
 
 abbrev pub line_limit : Sink → Sink

@@ -1,6 +1,6 @@
 ghost use Rattle.std.specs.Prelude.{◌≡◌, ◌≤◌};
 ghost use Rattle.meaning.specs.Sinks.{counter as counter_sink};
-ghost use Rattle.sinks.specs.SinkLaws.{counter_is_lawful};
+ghost use Rattle.meaning.proofs.SinkLaws.{counter_is_lawful};
 ghost use Rattle.sinks.specs.States.{counts};
 
 use crate::measure::count_lines;

@@ -16,8 +16,8 @@ returns-in-List c =
     tells_as s
     (index_list m m.op v c.args.number (sym c.kind.ensures ∙ c.in-List.is))
     c.or_absent.ensures
-    (tells_given s (part_of v c.args.number) c.part.result m.op m NoSuchIndex (size_of v) c.fault_at-absent.result c.part.ensures
-    (c.fault_at-absent.ensures ∙ ap (fault_at NoSuchIndex m.span) c.size.ensures))
+    (tells_given s (part_of v c.args.number) c.part.result m.op m NoSuchIndex (size_of v) c.at-absent.result c.part.ensures
+    (c.at-absent.ensures ∙ ap (fault_at NoSuchIndex m.span) c.size.ensures))
 
 pub returns-in_default : goal.returns-in_default
 returns-in_default c =
@@ -27,4 +27,4 @@ returns-in_default c =
     tells_as s
     (index_other m m.op v c.args.number (λ k. c.in_default.not-List (c.kind.ensures ∙ k)))
     refl
-    (c.fault_at.ensures ∙ ap (fault_at WrongAccess m.span) (c.byte.ensures ∙ ap byte_of c.kind.ensures ∙ kind_byte v))
+    (c.at.ensures ∙ ap (fault_at WrongAccess m.span) (c.byte.ensures ∙ ap byte_of c.kind.ensures ∙ kind_byte v))

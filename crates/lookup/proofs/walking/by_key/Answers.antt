@@ -17,7 +17,7 @@ returns-in-Map c =
     tells_as s
     (key_map m m.op v key (sym c.kind.ensures ∙ c.in-Map.is))
     c.or_absent.ensures
-    (tells_given s (entry_in v key) c.value_of.result m.op m NoSuchKey 0 c.fault_at-absent.result c.value_of.ensures c.fault_at-absent.ensures)
+    (tells_given s (entry_in v key) c.value_of.result m.op m NoSuchKey 0 c.at-absent.result c.value_of.ensures c.at-absent.ensures)
 
 pub returns-in_default : goal.returns-in_default
 returns-in_default c =
@@ -27,4 +27,4 @@ returns-in_default c =
     tells_as s
     (key_other m m.op v c.args.key.now (λ k. c.in_default.not-Map (c.kind.ensures ∙ k)))
     refl
-    (c.fault_at.ensures ∙ ap (fault_at WrongAccess m.span) (c.byte.ensures ∙ ap byte_of c.kind.ensures ∙ kind_byte v))
+    (c.at.ensures ∙ ap (fault_at WrongAccess m.span) (c.byte.ensures ∙ ap byte_of c.kind.ensures ∙ kind_byte v))
