@@ -1,5 +1,5 @@
 -- That a command is its head and then the rest: reading it is reading the one and passing over the other.
-use Rattle.std.proofs.Common.{◌≡◌, ℕ, zero, suc, ◌-◌, ◌≤◌, Bool, true, false, leb, List, [], ◌∷◌, length, drop, Ok, Err, Result, sym, refl, ap, ◌∙◌, subst, arith, length-drop}
+use Rattle.std.proofs.Common.{◌<◌, arith, ◌≡◌, ℕ, zero, suc, ◌-◌, Bool, true, false, leb, List, [], ◌∷◌, length, drop, Result, Some, None, Option, sym, refl, ap, ◌∙◌, length-drop}
 use Rattle.meaning.specs.declared.tree.Span.{Span}
 use Rattle.meaning.specs.Tree.{String, Expr, BaseExpr, Base, Literal, ListOf, MapOf, Paren, Call, Filter, pair, arg}
 use Rattle.meaning.specs.Tree.{members}
@@ -11,15 +11,17 @@ use Rattle.meaning.specs.Or.{gives, fails}
 use Rattle.meaning.specs.declared.fault.Cause.TheVariants.{Malformed, Misplaced, TooDeep}
 use Rattle.packing.specs.Unpacking.{nothing_below, expr_within, base_within, placed, span, string_of, variable, literal_value, args, pairs, base_of, expr_of, a_base, an_expr}
 use Rattle.packing.specs.Commands.{BaseByte, variable_byte, literal_byte, list_of_byte, map_of_byte, paren_byte, call_byte, ExprByte, of_base, filter_byte, base_code, base_bytes, expr_code, expr_bytes}
-use Rattle.reader.specs.Fields.{ended, variable_members}
+use Rattle.reader.specs.declared.literal.PlainValue.{PlainValue}
+use Rattle.reader.specs.Fields.{Takes, ended, variable_members}
 use Rattle.reader.specs.Heads.{BaseHead, VariableHead, LiteralHead, ListHead, EmptyMapHead, MapHead, ParenHead, CallHead, ExprHead, BaseOf, FilterHead, base_fields, map_fields, map_head, Callee, callee, base_spans, expr_spans, base_head, expr_head, expr_fields}
 use Rattle.checker.specs.Rests.{base_rest, expr_rest}
-use Rattle.meaning.specs.Value.{Value}
+use Rattle.std.specs.Prelude.{IsErrAnd}
+use Rattle.std.proofs.lemmas.Result.{err_from_is_err_and}
 use Rattle.reader.specs.declared.refusal.Refusal.{Refusal}
-use Rattle.reader.specs.declared.command.ExprCommand.{ExprCommand}
-use Rattle.reader.specs.Meanings.{expr_of as command_means}
+use Rattle.reader.specs.Meanings.{plain_of}
 use Rattle.reader.specs.AfterByte.{plain_head}
-use Rattle.reader.specs.Verdicts.{well_placed, Moves}
+use Rattle.reader.specs.Refusals.{cause_of, offset_of}
+use Rattle.reader.specs.Verdicts.{well_placed, reached}
 use Rattle.reader.proofs.Members.{ended_made, ended_read, ended_refused}
 
 -- ONE AFTER ANOTHER
@@ -174,41 +176,45 @@ after_read o u m e = let x = ended_read o u e in rw x.1
 pub after_refused : {A B : Type 0} (o : Outcome A) (cause : Cause) (left : ℕ) (f : A → Reader B) → refused cause left ≡ ended o → refused cause left ≡ ended (continue o f)
 after_refused o cause left f e = let x = ended_refused o cause left e in rw x
 
-module _ (base : Reader BaseExpr) (left n : ℕ) (s : List ℕ) where
-  pub args_step : left ≡ suc n → (u : List ℕ) → read tt u ≡ ended (base s) → ended (args base n u) ≡ ended (args base left s)
+module _ (base : Reader BaseExpr) where
+  pub args_end : (left : ℕ) (s : List ℕ) → left ≡ 0 → read tt s ≡ ended (args base left s)
   unfolding args
-  args_step some u e = let x = ended_read (base s) u e in rw (some, x.1) (sym (ended_made (args base n u) (arg x.0)))
+  args_end left s none = rw none
 
-  pub args_stop : left ≡ suc n → (cause : Cause) (at : ℕ) → refused cause at ≡ ended (base s) → refused cause at ≡ ended (args base left s)
+  pub args_stop : (left : ℕ) (s : List ℕ) (cause : Cause) (at : ℕ) → 0 < left → refused cause at ≡ ended (base s) → refused cause at ≡ ended (args base left s)
   unfolding args
-  args_stop some cause at e = let x = ended_refused (base s) cause at e in rw (some, x)
+  args_stop zero s cause at some e = absurd (omega arith)
+  args_stop (suc n) s cause at some e = rw (ended_refused (base s) cause at e)
 
-  pub args_end : left ≡ 0 → read tt s ≡ ended (args base left s)
+  pub args_step : (left n : ℕ) (s u : List ℕ) → left ≡ suc n → read tt u ≡ ended (base s) → ended (args base n u) ≡ ended (args base left s)
   unfolding args
-  args_end none = rw none
+  args_step left n s u some e = let x = ended_read (base s) u e in rw (some, x.1) (sym (ended_made (args base n u) (arg x.0)))
 
   module _ (source : List ℕ) (at : ℕ) where
-    pub pairs_cut : left ≡ suc n → refused Malformed at ≡ string_of at s → refused Malformed at ≡ ended (pairs source at true base left [] s)
+    pub pairs_end : (left : ℕ) (s : List ℕ) → left ≡ 0 → read tt s ≡ ended (pairs source at true base left [] s)
     unfolding pairs
-    pairs_cut some e = rw (some, sym e)
+    pairs_end left s none = rw none
 
-    pub pairs_misplaced : left ≡ suc n → (k : String) (u : List ℕ) → read k u ≡ string_of at s → false ≡ inside source k.span → refused Misplaced at ≡ ended (pairs source at true base left [] s)
+    pub pairs_cut : (left : ℕ) (s : List ℕ) → 0 < left → refused Malformed at ≡ string_of at s → refused Malformed at ≡ ended (pairs source at true base left [] s)
     unfolding pairs
-    pairs_misplaced some k u e wrong = rw (some, sym e, sym wrong)
+    pairs_cut zero s some e = absurd (omega arith)
+    pairs_cut (suc n) s some e = rw (sym e)
 
-    pub pairs_stop : left ≡ suc n → (k : String) (u : List ℕ) → read k u ≡ string_of at s → true ≡ inside source k.span → (cause : Cause) (off : ℕ) → refused cause off ≡ ended (base u) → refused cause off ≡ ended (pairs source at true base left [] s)
+    pub pairs_misplaced : (left : ℕ) (s : List ℕ) (k : String) (u : List ℕ) → 0 < left → read k u ≡ string_of at s → false ≡ inside source k.span → refused Misplaced at ≡ ended (pairs source at true base left [] s)
     unfolding pairs
-    pairs_stop some k u e right cause off f = let x = ended_refused (base u) cause off f in rw (some, sym e, sym right, x)
+    pairs_misplaced zero s k u some e wrong = absurd (omega arith)
+    pairs_misplaced (suc n) s k u some e wrong = rw (sym e, sym wrong)
 
-    pub pairs_step : left ≡ suc n → (k : String) (u v : List ℕ) → read k u ≡ string_of at s → true ≡ inside source k.span → read tt v ≡ ended (base u) → ended (pairs source at true base n [] v) ≡ ended (pairs source at true base left [] s)
+    pub pairs_stop : (left : ℕ) (s : List ℕ) (k : String) (u : List ℕ) (cause : Cause) (off : ℕ) → 0 < left → read k u ≡ string_of at s → true ≡ inside source k.span → refused cause off ≡ ended (base u) → refused cause off ≡ ended (pairs source at true base left [] s)
     unfolding pairs
-    pairs_step some k u v e right f =
+    pairs_stop zero s k u cause off some e right f = absurd (omega arith)
+    pairs_stop (suc n) s k u cause off some e right f = rw (sym e, sym right, ended_refused (base u) cause off f)
+
+    pub pairs_step : (left n : ℕ) (s : List ℕ) (k : String) (u v : List ℕ) → left ≡ suc n → read k u ≡ string_of at s → true ≡ inside source k.span → read tt v ≡ ended (base u) → ended (pairs source at true base n [] v) ≡ ended (pairs source at true base left [] s)
+    unfolding pairs
+    pairs_step left n s k u v some e right f =
         let x = ended_read (base u) v f in
         rw (some, sym e, sym right, x.1) (sym (ended_made (pairs source at true base n [] v) (pair k x.0)))
-
-    pub pairs_end : left ≡ 0 → read tt s ≡ ended (pairs source at true base left [] s)
-    unfolding pairs
-    pairs_end none = rw none
 
 -- A LITERAL'S VALUE
 
@@ -216,20 +222,29 @@ literal_is : (s : List ℕ) → plain_head (length s) s ≡ literal_value s
 unfolding plain_head literal_value
 literal_is s = refl
 
-module _ (tree : List ℕ) (pos : ℕ) where
-  pub literal_passed : (v : Value) (u : List ℕ) → ((at : ℕ) → read v u ≡ plain_head at (drop pos tree)) → read tt u ≡ ended (literal_value (drop pos tree))
-  literal_passed v u e = ap ended (e (length (drop pos tree)) ∙ literal_is (drop pos tree))
+module _ (tree : List ℕ) (pos : ℕ) (r : Option (PlainValue × ℕ)) (takes : Takes plain_of tree pos plain_head r) where
+  pub literal_passed : (v : PlainValue) (end : ℕ) → r ≡ Some (v, end) → read tt (drop end tree) ≡ ended (literal_value (drop pos tree))
+  literal_passed v end e =
+      let x = rw e at takes in
+      ap ended (x (length (drop pos tree)) ∙ literal_is (drop pos tree))
 
-  pub literal_cut : ((at : ℕ) → refused Malformed at ≡ plain_head at (drop pos tree)) → refused Malformed (length tree - pos) ≡ ended (literal_value (drop pos tree))
+  pub literal_cut : r ≡ None → refused Malformed (length tree - pos) ≡ ended (literal_value (drop pos tree))
   literal_cut e =
-      ap (λ n. refused Malformed n) (sym (length-drop pos tree)) ∙ ap ended (e (length (drop pos tree)) ∙ literal_is (drop pos tree))
+      let x = rw e at takes in
+      ap (λ n. refused Malformed n) (sym (length-drop pos tree)) ∙ ap ended (x (length (drop pos tree)) ∙ literal_is (drop pos tree))
 
 -- ANSWERS OF THE CHECKER
 
-pub moves_weaker : (tree : List ℕ) (pos next : ℕ) (r : Result ℕ Refusal) → pos ≤ next → Moves tree next r → Moves tree pos r
-moves_weaker tree pos next (Ok end) h m = let m₀ = m.0 in (omega arith, m.1)
-moves_weaker tree pos next (Err e) h m = m
+-- the exit of a `?`
+pub exit : (tree : List ℕ) (r : Result ℕ Refusal) (e : Refusal) (o : Outcome (Unit {0})) → IsErrAnd r (λ y. y ≡ e) → refused (cause_of e) (length tree - offset_of e) ≡ o → reached tree r ≡ o
+exit tree r e o h same = let p = err_from_is_err_and r h in rw (p.1, p.2) same
 
--- what was heard, at the variant that an arm has
-pub expr_at : {a b : ExprCommand} (u : List ℕ) (o : Outcome ExprHead) → a ≡ b → read (command_means a) u ≡ o → read (command_means b) u ≡ o
-expr_at u o same heard = subst (λ (x : ExprCommand). read (command_means x) u ≡ o) same heard
+-- THE CASES OF THE CHECKER'S FUNCTIONS
+
+pub ruleset expr_cases = (expr_refused, expr_too_deep)
+
+pub ruleset base_cases = (base_refused, base_too_deep, base_goes_on)
+
+pub ruleset args_cases = (args_end, args_stop, args_step)
+
+pub ruleset pairs_cases = (after_read, pairs_end, pairs_cut, pairs_misplaced)

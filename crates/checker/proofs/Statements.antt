@@ -1,5 +1,5 @@
 -- That a statement is its head and then the rest, and a scope its statements one after another.
-use Rattle.std.proofs.Common.{◌≡◌, ℕ, suc, ◌-◌, ◌≤◌, Bool, List, [], ◌∷◌, length, drop, sym, refl, ap, ◌∙◌, subst, arith, length-drop}
+use Rattle.std.proofs.Common.{◌≡◌, ℕ, suc, ◌-◌, ◌≤◌, Bool, List, [], ◌∷◌, length, drop, sym, refl, ap, ◌∙◌, arith, length-drop}
 use Rattle.meaning.specs.Tree.{Expr, Stmt, Scope, Inline, IncludeWith, If, IfElse, For, Item, KeyValue, With, ◌then◌}
 use Rattle.packing.specs.Reader.{Outcome, read, refused, Reader, ensure, flag, command}
 use Rattle.meaning.specs.Step.{return, continue, ◌>>=◌, ◌>>◌}
@@ -12,8 +12,6 @@ use Rattle.packing.proofs.Scopes.{bound_is_enough}
 use Rattle.reader.specs.Fields.{ended}
 use Rattle.reader.specs.Heads.{StmtHead, ScopeHead, StmtOf, EndHead, stmt_fields, scope_fields, scope_head, stmt_spans, scope_spans}
 use Rattle.checker.specs.Rests.{passing, stmt_rest}
-use Rattle.reader.specs.declared.command.ScopeCommand.{ScopeCommand}
-use Rattle.reader.specs.Meanings.{scope_of as command_means}
 use Rattle.reader.specs.Verdicts.{well_placed}
 use Rattle.reader.proofs.Members.{ended_made}
 use Rattle.checker.proofs.Rests.{step, nest, regroup, placed_first}
@@ -101,14 +99,15 @@ module _ (source : List ℕ) (levels : ℕ) where
     pub scope_ends : (u : List ℕ) → read EndHead u ≡ well_placed source scope_spans scope_head (drop pos tree) → read tt u ≡ ended (scope_within source levels (drop pos tree))
     scope_ends u e = sym (scope_levels (drop pos tree) ∙ rw (sym e))
 
-    pub scope_stops : (h : StmtHead) (u : List ℕ) → read (StmtOf h) u ≡ well_placed source scope_spans scope_head (drop pos tree) → (cause : Cause) (left : ℕ) → refused cause left ≡ stmt_rest source (length tree - pos) (room_at levels) (block_at source levels) h u → refused cause left ≡ ended (scope_within source levels (drop pos tree))
-    scope_stops h u e cause left f = sym (scope_levels (drop pos tree) ∙ rw (sym e, length-drop pos tree, sym f))
+    module _ (h : StmtHead) (u : List ℕ) (e : read (StmtOf h) u ≡ well_placed source scope_spans scope_head (drop pos tree)) where
+      pub scope_stops : (cause : Cause) (left : ℕ) → refused cause left ≡ stmt_rest source (length tree - pos) (room_at levels) (block_at source levels) h u → refused cause left ≡ ended (scope_within source levels (drop pos tree))
+      scope_stops cause left f = sym (scope_levels (drop pos tree) ∙ rw (sym e, length-drop pos tree, sym f))
 
-    pub scope_steps : (h : StmtHead) (u v : List ℕ) → read (StmtOf h) u ≡ well_placed source scope_spans scope_head (drop pos tree) → read tt v ≡ stmt_rest source (length tree - pos) (room_at levels) (block_at source levels) h u → length v ≤ length tree - pos → ended (scope_within source levels v) ≡ ended (scope_within source levels (drop pos tree))
-    scope_steps h u v e f fewer =
-        ap ended (sym (bound_is_enough source levels (length tree - pos) v fewer))
-        ∙ sym (scope_levels (drop pos tree) ∙ rw (sym e, length-drop pos tree, sym f))
+      pub scope_steps : (next : ℕ) → read tt (drop next tree) ≡ stmt_rest source (length tree - pos) (room_at levels) (block_at source levels) h u → pos ≤ next → ended (scope_within source levels (drop next tree)) ≡ ended (scope_within source levels (drop pos tree))
+      scope_steps next f further =
+          let size : length (drop next tree) ≡ length tree - next = length-drop next tree in
+          ap ended (sym (bound_is_enough source levels (length tree - pos) (drop next tree) (omega arith)))
+          ∙ sym (scope_levels (drop pos tree) ∙ rw (sym e, length-drop pos tree, sym f))
 
--- what was heard, at the variant that an arm has
-pub scope_at : {a b : ScopeCommand} (u : List ℕ) (o : Outcome ScopeHead) → a ≡ b → read (command_means a) u ≡ o → read (command_means b) u ≡ o
-scope_at u o same heard = subst (λ (x : ScopeCommand). read (command_means x) u ≡ o) same heard
+-- the cases of a step over a scope
+pub ruleset scope_cases = (scope_refused, scope_ends, scope_stops, scope_steps)

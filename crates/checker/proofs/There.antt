@@ -15,23 +15,26 @@ stands_before tree pos end part here there e =
     let same : pos + length part ≡ end = omega arith in
     (same, record { reads = e ∙ ap (λ k. part ++ drop k tree) (sym same); within = omega arith })
 
-pub first_part : (tree : List ℕ) (pos : ℕ) (a b : List ℕ) → Stands tree pos (a ++ b) → Stands tree pos a
-first_part tree pos a b s =
-    let size : length (a ++ b) ≡ length a + length b = length-append a b in
-    let within = s.within in
-    let e : drop pos tree ≡ a ++ (b ++ drop (pos + length (a ++ b)) tree) = s.reads ∙ append_assoc a b _ in
-    record { reads = e ∙ ap (λ u. a ++ u) (sym (rest tree pos a (b ++ drop (pos + length (a ++ b)) tree) (omega arith) e)); within = omega arith }
-  where
-    rest : (tree : List ℕ) (pos : ℕ) (a u : List ℕ) → pos + length a ≤ length tree → drop pos tree ≡ a ++ u → drop (pos + length a) tree ≡ u
-    rest tree pos a u inside e = sym (drop-drop (length a) pos tree) ∙ ap (drop (length a)) e ∙ drop_at a u (length a) refl
+-- what stands behind `a`
+behind : (tree : List ℕ) (pos : ℕ) (a u : List ℕ) → drop pos tree ≡ a ++ u → drop (pos + length a) tree ≡ u
+behind tree pos a u e = sym (drop-drop (length a) pos tree) ∙ ap (drop (length a)) e ∙ drop_at a u (length a) refl
 
-pub second_part : (tree : List ℕ) (pos : ℕ) (a b : List ℕ) → Stands tree pos (a ++ b) → Stands tree (pos + length a) b
-second_part tree pos a b s =
-    let size : length (a ++ b) ≡ length a + length b = length-append a b in
-    let within = s.within in
-    let e : drop pos tree ≡ a ++ (b ++ drop (pos + length (a ++ b)) tree) = s.reads ∙ append_assoc a b _ in
-    (stands_before tree (pos + length a) (pos + length (a ++ b)) b (omega arith) within
-    (sym (drop-drop (length a) pos tree) ∙ ap (drop (length a)) e ∙ drop_at a _ (length a) refl)).1
+module _ (tree : List ℕ) (pos : ℕ) (a b : List ℕ) (s : Stands tree pos (a ++ b)) where
+  both_sizes : length (a ++ b) ≡ length a + length b
+  both_sizes = length-append a b
+
+  both_read : drop pos tree ≡ a ++ (b ++ drop (pos + length (a ++ b)) tree)
+  both_read = s.reads ∙ append_assoc a b _
+
+  pub first_part : Stands tree pos a
+  first_part = record {
+    reads = both_read ∙ ap (λ u. a ++ u) (sym (behind tree pos a _ both_read));
+    within = omega (arith, both_sizes, s.within);
+  }
+
+  pub second_part : Stands tree (pos + length a) b
+  second_part =
+      (stands_before tree (pos + length a) (pos + length (a ++ b)) b (omega (arith, both_sizes, s.within)) s.within (behind tree pos a _ both_read)).1
 
 -- A command whose head is `h`, where `packed` stands: what the reader hands out means that head, and what is behind it follows.
 pub record Headed {X H : Type 0} (means : X → H) (tree : List ℕ) (behind : List ℕ) (end : ℕ) (h : H) (x : X) (next : ℕ) : Type 0 where

@@ -17,8 +17,8 @@ abbrev pub judged : Result (Unit {0}) Refusal → Or Fault (Unit {0})
 judged (Ok u) = gives tt
 judged (Err e) = fails (fault (cause_of e) (offset_of e))
 
-abbrev pub answered : Result (Unit {0}) code.Fault → Or Fault (Unit {0})
-answered (Ok u) = gives tt
+abbrev pub answered : {A : Type 0} → Result A code.Fault → Or Fault (Unit {0})
+answered (Ok a) = gives tt
 answered (Err f) = fails (fault_of f)
 
 abbrev pub is_given : {A : Type 0} → Or Fault A → Bool

@@ -8,13 +8,8 @@ mod trees;
 #[cfg(test)]
 mod tests {
     use super::trees::{all_commands, nested_ifs, of_length, said};
+    use meaning::fault::Cause;
     use std::test::Fail;
-
-    const TOO_DEEP: u8 = 4;
-
-    const MALFORMED: u8 = 2;
-
-    const BAD_SOURCE: u8 = 1;
 
     // The innermost of 15 ifs stands behind 14 others of 14 bytes each.
     #[test]
@@ -23,7 +18,7 @@ mod tests {
         assert_eq!(rt; said(b"ab", nested_ifs(heap, 14)?.as_slice()), None);
         assert_eq!(rt;
             said(b"ab", nested_ifs(heap, 15)?.as_slice()),
-            Some((TOO_DEEP, 14 * 14))
+            Some((Cause::TooDeep, 14 * 14))
         );
         Ok(())
     }
@@ -36,7 +31,7 @@ mod tests {
         assert_eq!(rt; said(b"ab", longest.as_slice()), None);
         let longer = of_length(heap, 8193)?;
         assert_eq!(rt; longer.len(), 8193);
-        assert_eq!(rt; said(b"ab", longer.as_slice()), Some((MALFORMED, 0)));
+        assert_eq!(rt; said(b"ab", longer.as_slice()), Some((Cause::Malformed, 0)));
         Ok(())
     }
 
@@ -46,7 +41,10 @@ mod tests {
         let longest = vec![in heap; b'a'; 8192]?;
         assert_eq!(rt; said(longest.as_slice(), b"\x0A"), None);
         let longer = vec![in heap; b'a'; 8193]?;
-        assert_eq!(rt; said(longer.as_slice(), b"\x0A"), Some((BAD_SOURCE, 0)));
+        assert_eq!(rt;
+            said(longer.as_slice(), b"\x0A"),
+            Some((Cause::BadSource, 0))
+        );
         Ok(())
     }
 
@@ -63,13 +61,11 @@ mod tests {
         let tree = all_commands(rt.alloc())?;
         for len in 0..tree.len() {
             let (front, _) = tree.as_slice().split_at(len);
-            match said(b"ab", front) {
-                Some((cause, offset)) => {
-                    assert_eq!(rt; cause, MALFORMED);
-                    assert!(rt; offset <= len);
-                }
-                None => return Err(Fail::new("a cut tree was taken")),
-            }
+            let (cause, offset) = said(b"ab", front).ok_or_else(|| Fail::new(
+                "a cut tree was taken",
+            ))?;
+            assert_eq!(rt; cause, Cause::Malformed);
+            assert!(rt; offset <= len);
         }
         Ok(())
     }
@@ -77,15 +73,13 @@ mod tests {
     // Only the end of statements is a tree of one byte.
     #[test]
     fn one_byte_is_no_tree_but_0a(rt: HostRuntime) -> Result<(), Fail> {
-        let heap = rt.alloc();
         for byte in 0..=255u8 {
-            let tree = vec![in heap; byte; 1]?;
-            let expected = if byte == 0x0A {
-                None
-            } else {
-                Some((MALFORMED, if byte == 0x02 { 1 } else { 0 }))
+            let expected = match byte {
+                0x0A => None,
+                0x02 => Some((Cause::Malformed, 1)),
+                _ => Some((Cause::Malformed, 0)),
             };
-            assert_eq!(rt; said(b"ab", tree.as_slice()), expected);
+            assert_eq!(rt; said(b"ab", &[byte]), expected);
         }
         Ok(())
     }

@@ -1,18 +1,18 @@
 //! Packed trees over the source `ab`.
 
 use checker::template::Template;
+use meaning::fault::Cause;
 use std::alloc::{AllocError, Global};
+use std::iter::repeat_n;
 
 /// The span of `a`.
 const SPAN: [u8; 4] = [0, 0, 1, 0];
 
-/// What the checker says of a source and a tree: nothing if they are taken, else the cause's number and the offset.
-pub fn said<'x>(source: &'x [u8], tree: &'x [u8]) -> Option<(u8, usize)> {
+/// What the checker says of a source and a tree: nothing if they are taken, else the cause and the offset.
+pub fn said<'x>(source: &'x [u8], tree: &'x [u8]) -> Option<(Cause, usize)> {
     let mut template = Template::empty();
-    match template.set(source, tree) {
-        Ok(()) => None,
-        Err(fault) => Some((fault.cause.number(), fault.detail)),
-    }
+    let fault = template.set(source, tree).err()?;
+    Some((fault.cause, fault.detail))
 }
 
 fn put_span(tree: &mut Vec<u8>) -> Result<(), AllocError> {
@@ -33,9 +33,7 @@ pub fn nested_ifs(heap: Global, count: usize) -> Result<Vec<u8>, AllocError> {
         tree.extend_from_slice(&[0x05, 0])?;
         put_variable(&mut tree)?;
     }
-    for _ in 0..count {
-        tree.push(0x0A)?;
-    }
+    tree.extend(repeat_n(0x0A, count))?;
     tree.push(0x0A)?;
     Ok(tree)
 }
@@ -52,9 +50,7 @@ pub fn of_length(heap: Global, length: usize) -> Result<Vec<u8>, AllocError> {
     tree.push(0x03)?;
     put_span(&mut tree)?;
     tree.extend_from_slice(&[text as u8, 0])?;
-    for _ in 0..text {
-        tree.push(b'n')?;
-    }
+    tree.extend(repeat_n(b'n', text))?;
     tree.push(0x0A)?;
     Ok(tree)
 }
@@ -135,11 +131,10 @@ fn put_literals(tree: &mut Vec<u8>) -> Result<(), AllocError> {
         tree.extend_from_slice(&[0x02, 0x11])?;
         put_span(tree)?;
         tree.push(byte)?;
-        if byte == 0x23 || byte == 0x24 {
-            tree.extend_from_slice(&[0, 0, 0, 0, 0, 0, 0, 0x80])?;
-        }
-        if byte == 0x25 {
-            tree.extend_from_slice(&[2, 0, 0xC3, 0xA9])?;
+        match byte {
+            0x23 | 0x24 => tree.extend_from_slice(&[0, 0, 0, 0, 0, 0, 0, 0x80])?,
+            0x25 => tree.extend_from_slice(&[2, 0, 0xC3, 0xA9])?,
+            _ => {}
         }
     }
     Ok(())

@@ -1,5 +1,4 @@
 pub mod Writes
-pub mod Fewer
 pub mod Means
 pub mod Operands
 pub mod Rows

@@ -1,5 +1,5 @@
 -- Records and what they mean, one part after another.
-use Rattle.std.proofs.Common.{◌≡◌, ℕ, suc, ◌+◌, List, [], ◌∷◌, ◌++◌, length, drop, set, refl, ap, ◌∙◌}
+use Rattle.std.proofs.Common.{◌≡◌, ℕ, suc, ◌+◌, List, [], ◌∷◌, ◌++◌, length, drop, refl, ap, ◌∙◌, subst}
 use mathlib.Core.Option.{some}
 use Rattle.packing.specs.Reader.{Outcome, read}
 use Rattle.program.specs.Program as program
@@ -7,8 +7,10 @@ use Rattle.checker.specs.There.{Stands}
 use Rattle.checker.proofs.There.{second_part}
 use Rattle.compiler.specs.declared.instr.Instr.{Instr}
 use Rattle.compiler.specs.Records.{instr_of, operand, Mean}
+use Rattle.compiler.specs.declared.writing.Compiler.{Compiler}
+use Rattle.compiler.specs.Writing.{Pushed, Patched, aimed, patched}
 use Rattle.compiler.specs.Compiled.{Made}
-use Rattle.compiler.proofs.Writes.{wrote_none, wrote_one, wrote_on}
+use Rattle.compiler.proofs.Writes.{wrote_none, wrote_one, wrote_on, wrote_changed}
 
 pub mean_append : (tree : List ℕ) (a b : List Instr) (x y : List program.Instr) → Mean tree a x → Mean tree b y → Mean tree (a ++ b) (x ++ y)
 mean_append tree [] b [] y m n = n
@@ -23,29 +25,31 @@ mean_length tree (i ∷ a) [] m = absurd m
 mean_length tree (i ∷ a) (j ∷ x) m = ap suc (mean_length tree a x m.1)
 
 -- how many instructions there are then
-pub made_counts : {tree : List ℕ} {code : List program.Instr} {end from pos len : ℕ} {before after : List Instr} → Made tree code end from pos len before after → len ≡ from + length code
-made_counts {tree} {code} {end} {from} m = m.wrote.counts ∙ ap (λ n. from + n) (mean_length tree m.records code m.mean)
+pub made_counts : {tree : List ℕ} {code : List program.Instr} {before after : Compiler} → Made tree code before after → after.len ≡ before.len + length code
+made_counts {tree} {code} {before} m = m.wrote.counts ∙ ap (λ n. before.len + n) (mean_length tree m.records code m.mean)
 
-pub made_none : {tree : List ℕ} {end from pos : ℕ} {out : List Instr} → pos ≡ end → Made tree [] end from pos from out out
-made_none ends = record { records = []; mean = tt; wrote = wrote_none; ends = ends }
+pub made_none : {tree : List ℕ} {c : Compiler} → Made tree [] c c
+made_none = record { records = []; mean = tt; wrote = wrote_none }
 
-pub made_one : {tree : List ℕ} {end from pos len : ℕ} {before after : List Instr} (i : Instr) (x : program.Instr) → instr_of tree i ≡ some x → len ≡ from + 1 → after ≡ set before from i → pos ≡ end → Made tree (x ∷ []) end from pos len before after
-made_one i x means counts writes ends = record { records = i ∷ []; mean = (means, tt); wrote = wrote_one i counts writes; ends = ends }
+pub made_one : {tree : List ℕ} {made : Instr} {before after : Compiler} (i : Instr) (x : program.Instr) → instr_of tree i ≡ some x → made ≡ i → Pushed made before after → Made tree (x ∷ []) before after
+made_one {tree} {made} {before} {after} i x means is p = record { records = i ∷ []; mean = (means, tt); wrote = wrote_one i (subst (λ (k : Instr). Pushed k before after) is p) }
 
-pub made_on : {tree : List ℕ} {a b : List program.Instr} {mid end from pos pos' len len' : ℕ} {before between after : List Instr} → Made tree a mid from pos len before between → Made tree b end len pos' len' between after → Made tree (a ++ b) end from pos' len' before after
+pub made_on : {tree : List ℕ} {a b : List program.Instr} {before between after : Compiler} → Made tree a before between → Made tree b between after → Made tree (a ++ b) before after
 made_on {tree} {a} {b} m n = record {
   records = m.records ++ n.records;
   mean = mean_append tree m.records n.records a b m.mean n.mean;
   wrote = wrote_on m.wrote n.wrote;
-  ends = n.ends;
 }
 
-pub made_end : {tree : List ℕ} {code : List program.Instr} {end end' from pos len : ℕ} {before after : List Instr} → end ≡ end' → Made tree code end from pos len before after → Made tree code end' from pos len before after
-made_end same m = record { records = m.records; mean = m.mean; wrote = m.wrote; ends = m.ends ∙ same }
-
--- wherever the compiler stands in the tree
-pub made_at : {tree : List ℕ} {code : List program.Instr} {end end' from pos pos' len : ℕ} {before after : List Instr} → pos' ≡ end' → Made tree code end from pos len before after → Made tree code end' from pos' len before after
-made_at there m = record { records = m.records; mean = m.mean; wrote = m.wrote; ends = there }
+-- a jump that is written and then given its target
+pub made_jump : {tree : List ℕ} {code : List program.Instr} {jump target : ℕ} {made : Instr} {before between late after : Compiler} (i : Instr) (x : program.Instr) → instr_of tree (aimed target i) ≡ some x → made ≡ i → Pushed made before between → Made tree code between late → jump ≡ before.len → Patched jump target late after → Made tree (x ∷ code) before after
+made_jump {tree} {code} {jump} {target} {made} {before} {between} {late} {after} i x means is p m number q =
+    let first = wrote_one i (subst (λ (k : Instr). Pushed k before between) is p) in
+    record {
+      records = aimed target i ∷ m.records;
+      mean = (means, m.mean);
+      wrote = wrote_changed (aimed target) i (wrote_on first m.wrote) q.counts (q.writes ∙ ap (λ n. patched late.instrs.now n target) number);
+    }
 
 -- OPERANDS
 

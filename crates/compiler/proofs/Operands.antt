@@ -17,7 +17,7 @@ use Rattle.checker.proofs.There.{first_part, second_part}
 use Rattle.checker.proofs.TreeHeads.{placed_string, plain_head_reads}
 use Rattle.compiler.specs.declared.instr.Op.{Op}
 use Rattle.compiler.specs.Records.{instr_of, operand, callee_operands, literal_operands}
-use Rattle.compiler.specs.Compiled.{plain_record}
+use Rattle.compiler.specs.Making.{plain_record}
 use Rattle.compiler.proofs.Means.{behind_byte, operand_means}
 
 pub span_size : (s : Span) → length (pack_span s) ≡ 4

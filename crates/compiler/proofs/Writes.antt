@@ -1,7 +1,9 @@
 -- How writes into the program follow one another.
 use Rattle.std.proofs.Common.{◌≡◌, ℕ, zero, suc, ◌+◌, ◌-◌, ◌<◌, ◌≤◌, List, [], ◌∷◌, ◌++◌, length, get_or, drop, set, sym, refl, ap, ◌∙◌, append_assoc, add-zero, arith, length-append}
+use Rattle.std.proofs.Math.Seq.{set-append_seam}
 use Rattle.compiler.specs.declared.instr.Instr.{Instr}
-use Rattle.compiler.specs.Writing.{Wrote, written, changed}
+use Rattle.compiler.specs.declared.writing.Compiler.{Compiler}
+use Rattle.compiler.specs.Writing.{Wrote, Pushed, Emitting, written, changed, emitting, retagged}
 
 module _ (f : Instr → Instr) where
   pub changed_set_same : (out : List Instr) (at : ℕ) (i : Instr) → changed f (set out at i) at ≡ set out at (f i)
@@ -37,16 +39,19 @@ module _ (f : Instr → Instr) where
   changed_past (x ∷ out) (suc at) h = ap (λ (xs : List Instr). x ∷ xs) (changed_past out at (omega arith))
 
   -- a record that is written and then changed stands as if written so
-  pub wrote_changed : (i : Instr) {more : List Instr} {start next : ℕ} {before after : List Instr} → Wrote (i ∷ more) start next before after → Wrote (f i ∷ more) start next before (changed f after start)
+  pub wrote_changed : (i : Instr) {more : List Instr} {before late after : Compiler} → Wrote (i ∷ more) before late → after.len ≡ late.len → after.instrs.now ≡ changed f late.instrs.now before.len → Wrote (f i ∷ more) before after
   unfolding written
-  wrote_changed i {more} {start} {next} {before} {after} w =
+  wrote_changed i {more} {before} {late} {after} w counts is =
+      let start = before.len in
+      let out = before.instrs.now in
       let later : start < start + 1 = omega arith in
       record {
-        counts = w.counts;
+        counts = counts ∙ w.counts;
         writes =
-            ap (λ (xs : List Instr). changed f xs start) w.writes
-            ∙ changed_written more (set before start i) start (start + 1) later
-            ∙ ap (λ (xs : List Instr). written xs (start + 1) more) (changed_set_same before start i);
+            is
+            ∙ ap (λ (xs : List Instr). changed f xs start) w.writes
+            ∙ changed_written more (set out start i) start (start + 1) later
+            ∙ ap (λ (xs : List Instr). written xs (start + 1) more) (changed_set_same out start i);
       }
 
 pub written_append : (a b out : List Instr) (at : ℕ) → written out at (a ++ b) ≡ written (written out at a) (at + length a) b
@@ -56,38 +61,48 @@ written_append (i ∷ a) b out at =
     let move : at + 1 + length a ≡ at + suc (length a) = omega arith in
     written_append a b (set out at i) (at + 1) ∙ ap (λ (n : ℕ). written (written (set out at i) (at + 1) a) n b) move
 
-pub wrote_none : {start : ℕ} {out : List Instr} → Wrote [] start start out out
+pub wrote_none : {c : Compiler} → Wrote [] c c
 unfolding written
 wrote_none = record { counts = omega arith; writes = refl }
 
-pub wrote_one : {start next : ℕ} {before after : List Instr} (i : Instr) → next ≡ start + 1 → after ≡ set before start i → Wrote (i ∷ []) start next before after
+pub wrote_one : (i : Instr) {before after : Compiler} → Pushed i before after → Wrote (i ∷ []) before after
 unfolding written
-wrote_one i counts writes = record { counts = counts; writes = writes }
+wrote_one i p = record { counts = p.counts; writes = p.writes }
 
-pub wrote_on : {a b : List Instr} {start mid next : ℕ} {before between after : List Instr} → Wrote a start mid before between → Wrote b mid next between after → Wrote (a ++ b) start next before after
-wrote_on {a} {b} {start} {mid} {next} {before} {between} {after} u v =
+pub wrote_on : {a b : List Instr} {before between after : Compiler} → Wrote a before between → Wrote b between after → Wrote (a ++ b) before after
+wrote_on {a} {b} {before} {between} {after} u v =
+    let out = before.instrs.now in
     let n = u.counts in
     let m = v.counts in
-    let p : after ≡ written (written before start a) (start + length a) b =
-    v.writes ∙ ap (λ (xs : List Instr). written xs mid b) u.writes ∙ ap (λ (k : ℕ). written (written before start a) k b) n in
-    record { counts = omega (arith, length-append a b); writes = p ∙ sym (written_append a b before start) }
+    record {
+      counts = omega (arith, length-append a b);
+      writes =
+          v.writes
+          ∙ ap (λ (xs : List Instr). written xs between.len b) u.writes
+          ∙ ap (λ (k : ℕ). written (written out before.len a) k b) n
+          ∙ sym (written_append a b out before.len);
+    }
 
--- the last record of a row is changed
-pub wrote_last : (f : Instr → Instr) (rs : List Instr) (i : Instr) {start next : ℕ} {before after : List Instr} → Wrote (rs ++ (i ∷ [])) start next before after → Wrote (rs ++ (f i ∷ [])) start next before (changed f after (next - 1))
+-- the last record of a row emits
+pub wrote_last : (rs : List Instr) (i : Instr) {before late after : Compiler} → Wrote (rs ++ (i ∷ [])) before late → Emitting late after → Wrote (rs ++ (emitting i ∷ [])) before after
 unfolding written
-wrote_last f rs i {start} {next} {before} {after} w =
+wrote_last rs i {before} {late} {after} w e =
+    let start = before.len in
+    let out = before.instrs.now in
     let counts = w.counts in
+    let counts' = e.counts in
     let size = length-append rs (i ∷ []) in
-    let size' = length-append rs (f i ∷ []) in
-    let last : next - 1 ≡ start + length rs = omega arith in
-    let is : after ≡ set (written before start rs) (start + length rs) i = w.writes ∙ written_append rs (i ∷ []) before start in
+    let size' = length-append rs (emitting i ∷ []) in
+    let last : late.len - 1 ≡ start + length rs = omega arith in
+    let is : late.instrs.now ≡ set (written out start rs) (start + length rs) i = w.writes ∙ written_append rs (i ∷ []) out start in
     record {
       counts = omega arith;
       writes =
-          ap (λ (k : ℕ). changed f after k) last
-          ∙ ap (λ (xs : List Instr). changed f xs (start + length rs)) is
-          ∙ changed_set_same f (written before start rs) (start + length rs) i
-          ∙ sym (written_append rs (f i ∷ []) before start);
+          e.writes
+          ∙ ap (λ (k : ℕ). retagged late.instrs.now k) last
+          ∙ ap (λ (xs : List Instr). retagged xs (start + length rs)) is
+          ∙ changed_set_same emitting (written out start rs) (start + length rs) i
+          ∙ sym (written_append rs (emitting i ∷ []) out start);
     }
 
 -- records that fit stand at the front, and behind them the slice is as it was
@@ -96,13 +111,9 @@ unfolding written
 written_front [] pre out h = refl
 written_front (i ∷ rs) pre [] h = absurd (omega arith)
 written_front (i ∷ rs) pre (x ∷ out) h =
-    let here : set (pre ++ (x ∷ out)) (length pre) i ≡ (pre ++ (i ∷ [])) ++ out = set_here pre x out i ∙ sym (append_assoc pre (i ∷ []) out) in
+    let here : set (pre ++ (x ∷ out)) (length pre) i ≡ (pre ++ (i ∷ [])) ++ out = set-append_seam pre x out i ∙ sym (append_assoc pre (i ∷ []) out) in
     let size : length pre + 1 ≡ length (pre ++ (i ∷ [])) = sym (length-append pre (i ∷ [])) in
     ap (λ (xs : List Instr). written xs (length pre + 1) rs) here
     ∙ ap (λ (n : ℕ). written ((pre ++ (i ∷ [])) ++ out) n rs) size
     ∙ written_front rs (pre ++ (i ∷ [])) out (omega arith)
     ∙ append_assoc pre (i ∷ []) (rs ++ drop (length rs) out)
-  where
-    set_here : (pre : List Instr) (x : Instr) (out : List Instr) (i : Instr) → set (pre ++ (x ∷ out)) (length pre) i ≡ pre ++ (i ∷ out)
-    set_here [] x out i = refl
-    set_here (y ∷ pre) x out i = ap (λ (xs : List Instr). y ∷ xs) (set_here pre x out i)

@@ -10,8 +10,8 @@ use Rattle.reader.specs.Heads.{BaseHead, StmtHead}
 use Rattle.checker.specs.There.{Stands, ExprThere, BaseThere, ArgsThere, PairsThere, ScopeThere}
 use Rattle.checker.specs.TreeHeads.{base_head_of, base_behind, stmt_head_of, stmt_behind}
 use Rattle.compiler.specs.declared.instr.Instr.{Instr}
-use Rattle.compiler.specs.declared.instr.Op.{Op}
-use Rattle.compiler.specs.declared.compile.Compiler.{Compiler}
+use Rattle.compiler.specs.declared.compile.Compiled.{Compiled}
+use Rattle.compiler.specs.declared.writing.Compiler.{Compiler}
 use Rattle.compiler.specs.Records.{Mean}
 use Rattle.compiler.specs.Writing.{Wrote}
 
@@ -28,26 +28,6 @@ abbrev mutual
   base_applies (MapOf s pairs) = false
   base_applies (Paren s e) = applies e
   base_applies (Call name whole args) = true
-
-abbrev pub plain_record : Op → ℕ → Instr
-plain_record op at = record { op = op; at = at; arity = 0; target = 0 }
-
-abbrev pub jump_record : (op : Op) (target : ℕ) → Instr
-jump_record op target = record { op = op; at = 0; arity = 0; target = target }
-
--- the jump past a branch
-abbrev pub past_op : Bool → Op
-past_op true = Op.JumpIfTrue
-past_op false = Op.JumpIfFalse
-
-abbrev pub apply_record : (at arity : ℕ) → Instr
-apply_record at arity = record { op = Op.Apply; at = at; arity = arity; target = 0 }
-
-abbrev pub applied_to : (pos len : ℕ) → Compiler
-applied_to pos len = record { pos = pos; len = len; applied = true }
-
-abbrev pub moved_to : (pos len : ℕ) → Compiler
-moved_to pos len = record { pos = pos; len = len; applied = false }
 
 -- something stands in the tree, over some source that is short enough
 pub record Over (P : List ℕ → Type 0) : Type 0 where
@@ -84,63 +64,74 @@ pub record LoopOver (source tree : List ℕ) (start pos : ℕ) : Type 0 where
   pub whole : Stands tree start (pack_stmt (For vars expr scope))
   pub stands : Stands tree pos (pack_expr expr ++ pack scope)
 
--- from the instruction `from` up to `len`, and up to `pos` in the tree
-pub record Made (tree : List ℕ) (code : List program.Instr) (end from pos len : ℕ) (before after : List Instr) : Type 0 where
+-- the instructions are written, and behind them there are no others
+pub record Made (tree : List ℕ) (code : List program.Instr) (before after : Compiler) : Type 0 where
   pub records : List Instr
   pub mean : Mean tree records code
-  pub wrote : Wrote records from len before after
-  pub ends : pos ≡ end
+  pub wrote : Wrote records before after
 
 -- the tree is short, and there are no more instructions than bytes so far
 pub record Room (tree : List ℕ) (pos len : ℕ) : Type 0 where
   pub short : length tree ≤ most_bytes
   pub fewer : len ≤ pos
 
-module _ (tree : List ℕ) (pos len : ℕ) (r : Compiler) (before after : List Instr) where
-  abbrev pub ExprMade : Type 0
-  ExprMade =
-      (w : Over (λ s. ExprThere s tree pos))
-      → Made tree (compile_expr w.there.expr) (pos + length (pack_expr w.there.expr)) len r.pos r.len before after × (r.applied ≡ applies w.there.expr)
+-- from `start` up to `end`, which lies in the tree, there are at least as many bytes as there are new instructions
+pub record Ahead (tree : List ℕ) (start len end next : ℕ) : Type 0 where
+  pub within : end ≤ length tree
+  pub counts : len ≤ next
+  pub room : next + start ≤ len + end
 
-  abbrev pub BaseMade : Type 0
-  BaseMade =
-      (w : Over (λ s. BaseThere s tree pos))
-      → Made tree (compile_base w.there.base) (pos + length (pack_base w.there.base)) len r.pos r.len before after × (r.applied ≡ base_applies w.there.base)
+module _ (tree : List ℕ) where
+  -- the part up to `end` is compiled
+  pub record PartMade (code : List program.Instr) (whole end : ℕ) (before after : Compiler) : Type 0 where
+    pub made : Made tree code before after
+    pub ends : end ≡ whole
 
-  abbrev pub BehindMade : ℕ → BaseHead → Type 0
-  BehindMade start head =
-      (w : Over (λ s. BaseOver s tree start head pos))
-      → Made tree (compile_base w.there.base) (pos + length (base_behind w.there.base)) len r.pos r.len before after × (r.applied ≡ base_applies w.there.base)
+  abbrev pub ExprIs : Expr → (whole : ℕ) → Compiled → (before after : Compiler) → Type 0
+  ExprIs e whole r before after = PartMade (compile_expr e) whole r.end before after × (r.applied ≡ applies e)
 
-  abbrev pub ArgsMade : ℕ → Type 0
-  ArgsMade count =
-      (w : Over (λ s. ArgsThere s tree count pos)) → Made tree (compile_args w.there.args) (pos + length (pack_args w.there.args)) len r.pos r.len before after
+  abbrev pub BaseIs : BaseExpr → (whole : ℕ) → Compiled → (before after : Compiler) → Type 0
+  BaseIs b whole r before after = PartMade (compile_base b) whole r.end before after × (r.applied ≡ base_applies b)
 
-  abbrev pub ItemsMade : ℕ → Type 0
-  ItemsMade count =
-      (w : Over (λ s. ArgsThere s tree count pos)) → Made tree (compile_items w.there.args) (pos + length (pack_args w.there.args)) len r.pos r.len before after × (r.applied ≡ false)
+  module _ (pos : ℕ) where
+    abbrev pub ExprMade : Compiled → (before after : Compiler) → Type 0
+    ExprMade r before after = (w : Over (λ s. ExprThere s tree pos)) → ExprIs w.there.expr (pos + length (pack_expr w.there.expr)) r before after
 
-  abbrev pub PairsMade : ℕ → Type 0
-  PairsMade count =
-      (w : Over (λ s. PairsThere s tree count pos)) → Made tree (compile_pairs w.there.pairs) (pos + length (pack_pairs w.there.pairs)) len r.pos r.len before after × (r.applied ≡ false)
+    abbrev pub BaseMade : Compiled → (before after : Compiler) → Type 0
+    BaseMade r before after = (w : Over (λ s. BaseThere s tree pos)) → BaseIs w.there.base (pos + length (pack_base w.there.base)) r before after
 
-  abbrev pub StmtMade : ℕ → StmtHead → Type 0
-  StmtMade start head =
-      (w : Over (λ s. StmtOver s tree start head pos))
-      → Made tree (compile_stmt w.there.stmt len) (pos + length (stmt_behind w.there.stmt)) len r.pos r.len before after
+    abbrev pub ArgsMade : (count end : ℕ) (before after : Compiler) → Type 0
+    ArgsMade count end before after =
+        (w : Over (λ s. ArgsThere s tree count pos)) → PartMade (compile_args w.there.args) (pos + length (pack_args w.there.args)) end before after
 
-  abbrev pub ScopeMade : Type 0
-  ScopeMade =
-      (w : Over (λ s. ScopeThere s tree pos)) → Made tree (compile_scope w.there.scope len) (pos + length (pack w.there.scope)) len r.pos r.len before after
+    abbrev pub ItemsMade : (count end : ℕ) (before after : Compiler) → Type 0
+    ItemsMade count end before after =
+        (w : Over (λ s. ArgsThere s tree count pos)) → PartMade (compile_items w.there.args) (pos + length (pack_args w.there.args)) end before after
 
-  abbrev pub LoopMade : ℕ → Type 0
-  LoopMade start =
-      (w : Over (λ s. LoopOver s tree start pos))
-      → Made tree (compile_stmt (For w.there.vars w.there.expr w.there.scope) len) (pos + length (pack_expr w.there.expr ++ pack w.there.scope)) len r.pos r.len before after
+    abbrev pub PairsMade : (count end : ℕ) (before after : Compiler) → Type 0
+    PairsMade count end before after =
+        (w : Over (λ s. PairsThere s tree count pos)) → PartMade (compile_pairs w.there.pairs) (pos + length (pack_pairs w.there.pairs)) end before after
+
+    abbrev pub ScopeMade : (end : ℕ) (before after : Compiler) → Type 0
+    ScopeMade end before after =
+        (w : Over (λ s. ScopeThere s tree pos)) → PartMade (compile_scope w.there.scope before.len) (pos + length (pack w.there.scope)) end before after
+
+  module _ (start pos : ℕ) where
+    abbrev pub BehindMade : BaseHead → Compiled → (before after : Compiler) → Type 0
+    BehindMade head r before after =
+        (w : Over (λ s. BaseOver s tree start head pos)) → BaseIs w.there.base (pos + length (base_behind w.there.base)) r before after
+
+    abbrev pub StmtMade : StmtHead → (end : ℕ) (before after : Compiler) → Type 0
+    StmtMade head end before after =
+        (w : Over (λ s. StmtOver s tree start head pos)) → PartMade (compile_stmt w.there.stmt before.len) (pos + length (stmt_behind w.there.stmt)) end before after
+
+    abbrev pub LoopMade : (end : ℕ) (before after : Compiler) → Type 0
+    LoopMade end before after =
+        (w : Over (λ s. LoopOver s tree start pos))
+        → PartMade (compile_stmt (For w.there.vars w.there.expr w.there.scope) before.len) (pos + length (pack_expr w.there.expr ++ pack w.there.scope)) end before after
 
 -- what was compiled as an expression is then emitted
-abbrev pub EmitMade : (compiled emitted : Compiler) (between after : List Instr) → Type 0
-EmitMade compiled emitted between after =
-    (tree : List ℕ) (e : Expr) (end from : ℕ) (before : List Instr)
-    → Made tree (compile_expr e) end from compiled.pos compiled.len before between → compiled.applied ≡ applies e
-    → Made tree (emit_expr e) end from emitted.pos emitted.len before after
+abbrev pub EmitMade : Compiled → (compiled emitted : Compiler) → Type 0
+EmitMade r compiled emitted =
+    (tree : List ℕ) (e : Expr) (before : Compiler)
+    → Made tree (compile_expr e) before compiled → r.applied ≡ applies e → Made tree (emit_expr e) before emitted

@@ -1,3 +1,4 @@
+pub mod Making
 pub mod Writing
 pub mod Records
 pub mod Compiled

@@ -1,7 +1,8 @@
 -- How a program is written into a slice. An index past the slice's end writes nothing.
-use Rattle.std.specs.Prelude.{◌≡◌, ℕ, zero, suc, ◌+◌, List, [], ◌∷◌, length, slice_set}
+use Rattle.std.specs.Prelude.{◌≡◌, ℕ, zero, suc, ◌+◌, ◌-◌, List, [], ◌∷◌, length, slice_set}
 use Rattle.compiler.specs.declared.instr.Instr.{Instr}
 use Rattle.compiler.specs.declared.instr.Op.{Op}
+use Rattle.compiler.specs.declared.writing.Compiler.{Compiler}
 
 -- the slice with the records from index `at` on
 unfoldable pub written : List Instr → ℕ → List Instr → List Instr
@@ -27,7 +28,22 @@ emitting i = record { op = Op.EmitWith; at = i.at; arity = i.arity; target = i.t
 abbrev pub retagged : List Instr → ℕ → List Instr
 retagged instrs last = changed emitting instrs last
 
--- the records stand from `start` up to `next`, and all else is as before
-pub record Wrote (records : List Instr) (start next : ℕ) (before after : List Instr) : Type 0 where
-  pub counts : next ≡ start + length records
-  pub writes : after ≡ written before start records
+-- one record more
+pub record Pushed (i : Instr) (before after : Compiler) : Type 0 where
+  pub counts : after.len ≡ before.len + 1
+  pub writes : after.instrs.now ≡ slice_set before.instrs.now before.len i
+
+-- a jump has its target
+pub record Patched (jump target : ℕ) (before after : Compiler) : Type 0 where
+  pub counts : after.len ≡ before.len
+  pub writes : after.instrs.now ≡ patched before.instrs.now jump target
+
+-- the last record emits
+pub record Emitting (before after : Compiler) : Type 0 where
+  pub counts : after.len ≡ before.len
+  pub writes : after.instrs.now ≡ retagged before.instrs.now (before.len - 1)
+
+-- the records stand behind those before them, and all else is as it was
+pub record Wrote (records : List Instr) (before after : Compiler) : Type 0 where
+  pub counts : after.len ≡ before.len + length records
+  pub writes : after.instrs.now ≡ written before.instrs.now before.len records

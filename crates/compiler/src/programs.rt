@@ -8,8 +8,8 @@ ghost use Rattle.checker.specs.Templates.{source_of, tree_of};
 ghost use Rattle.compiler.specs.Answers.{Answers};
 ghost use Rattle.program.specs.Program as program;
 
-use crate::compile::compile_scope;
 use crate::instr::Instr;
+use crate::writing::Compiler;
 use checker::template::Template;
 use meaning::fault::{Cause, Fault};
 
@@ -27,19 +27,22 @@ pub enum CompileError {
 
 /// Writes the template's program to the front of the slice, and answers the number of its instructions. On an error
 /// the slice is as it was.
+#[tactic(auto, using(crate::proofs::Wholes::whole_over, crate::proofs::Wholes::whole_room))]
 pub fn compile(template: &Template, instrs: &mut [Instr]) -> Result<usize, CompileError>
     ensures { (scope : Scope) → unpack (source_of template.now) (tree_of template.now) ≡ gives scope → Answers (tree_of template.now) (program.compile scope) instrs.old instrs.new result }
 {
     let tree = template.tree();
     // an empty slice takes nothing, and the instructions are counted all the same
-    let mut nothing: [Instr; 0] = [];
-    let counted = compile_scope(tree, &mut nothing, 0, 0);
-    if counted.len > MOST_INSTRUCTIONS {
-        return Err(CompileError::Fault(Fault::of_call(Cause::TooManyInstructions, counted.len)));
+    let mut counted = Compiler::new(&mut []);
+    counted.compile_scope(tree, 0);
+    let count = counted.len;
+    if count > MOST_INSTRUCTIONS {
+        return Err(CompileError::Fault(Fault::of_call(Cause::TooManyInstructions, count)));
     }
-    if counted.len > instrs.len() {
-        return Err(CompileError::Short(counted.len));
+    if count > instrs.len() {
+        return Err(CompileError::Short(count));
     }
-    let written = compile_scope(tree, instrs, 0, 0);
+    let mut written = Compiler::new(instrs);
+    written.compile_scope(tree, 0);
     Ok(written.len)
 }

@@ -7,7 +7,8 @@ mod trees;
 
 #[cfg(test)]
 mod tests {
-    use super::trees::{SHORT, TOO_MANY, WRITTEN, loops, raws, said, unwritten};
+    use super::trees::{Ended, loops, raws, said, unwritten};
+    use meaning::fault::Cause;
     use std::test::Fail;
 
     // A raw has 5 bytes and one instruction, whose operand stands behind the first of them.
@@ -18,14 +19,14 @@ mod tests {
         let longest = raws(heap, 1024)?;
         assert_eq!(rt;
             said(longest.as_slice(), instrs.as_mut_slice()),
-            (WRITTEN, 1024)
+            Ended::Written(1024)
         );
         assert_eq!(rt; instrs[1023].at, 1023 * 5 + 1);
         assert_eq!(rt; instrs[1024].at, 9);
         let longer = raws(heap, 1025)?;
         assert_eq!(rt;
             said(longer.as_slice(), instrs.as_mut_slice()),
-            (TOO_MANY, 1025)
+            Ended::Fault(Cause::TooManyInstructions, 1025)
         );
         Ok(())
     }
@@ -35,7 +36,10 @@ mod tests {
         let heap = rt.alloc();
         let mut instrs = vec![in heap; unwritten(); 2]?;
         let tree = raws(heap, 3)?;
-        assert_eq!(rt; said(tree.as_slice(), instrs.as_mut_slice()), (SHORT, 3));
+        assert_eq!(rt;
+            said(tree.as_slice(), instrs.as_mut_slice()),
+            Ended::Short(3)
+        );
         assert_eq!(rt; instrs[0].at, 9);
         assert_eq!(rt; instrs[1].at, 9);
         Ok(())
@@ -50,7 +54,7 @@ mod tests {
         assert_eq!(rt; tree.len(), 8192);
         assert_eq!(rt;
             said(tree.as_slice(), instrs.as_mut_slice()),
-            (TOO_MANY, 682 * 4 + 2)
+            Ended::Fault(Cause::TooManyInstructions, 682 * 4 + 2)
         );
         Ok(())
     }
@@ -61,7 +65,10 @@ mod tests {
         let heap = rt.alloc();
         let mut instrs = vec![in heap; unwritten(); 6]?;
         let tree = loops(heap, 1)?;
-        assert_eq!(rt; said(tree.as_slice(), instrs.as_mut_slice()), (WRITTEN, 6));
+        assert_eq!(rt;
+            said(tree.as_slice(), instrs.as_mut_slice()),
+            Ended::Written(6)
+        );
         assert_eq!(rt; instrs[2].target, 4);
         assert_eq!(rt; instrs[3].target, 2);
         Ok(())

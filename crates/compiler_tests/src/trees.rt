@@ -3,6 +3,7 @@
 use checker::template::Template;
 use compiler::instr::{Instr, Op};
 use compiler::programs::{CompileError, compile};
+use meaning::fault::Cause;
 use std::alloc::{AllocError, Global};
 
 /// The span of `a`.
@@ -11,26 +12,29 @@ const SPAN: [u8; 4] = [0, 0, 1, 0];
 /// A literal none.
 const LITERAL: [u8; 6] = [0x11, 0, 0, 1, 0, 0x20];
 
-/// How compiling ends: with a program, a fault of that number, a slice that is too short, or no template at all.
-pub const WRITTEN: u8 = 0;
+/// How compiling a tree ends, each with its number.
+#[derive(Clone, Copy, PartialEq, Eq, Debug)]
+pub enum Ended {
+    /// With a program of so many instructions.
+    Written(usize),
+    /// With a fault of that cause, and its detail.
+    Fault(Cause, usize),
+    /// With a slice that is shorter than that.
+    Short(usize),
+    /// With no template: the detail of why not.
+    NoTemplate(usize),
+}
 
-pub const TOO_MANY: u8 = 5;
-
-pub const SHORT: u8 = 100;
-
-pub const NO_TEMPLATE: u8 = 101;
-
-/// How compiling a tree ends, and the number that comes with it.
-pub fn said(tree: &[u8], instrs: &mut [Instr]) -> (u8, usize) {
+/// How compiling a tree ends.
+pub fn said(tree: &[u8], instrs: &mut [Instr]) -> Ended {
     let mut template = Template::empty();
-    match template.set(b"ab", tree) {
-        Ok(()) => {}
-        Err(fault) => return (NO_TEMPLATE, fault.detail),
+    if let Err(fault) = template.set(b"ab", tree) {
+        return Ended::NoTemplate(fault.detail);
     }
     match compile(&template, instrs) {
-        Ok(len) => (WRITTEN, len),
-        Err(CompileError::Fault(fault)) => (fault.cause.number(), fault.detail),
-        Err(CompileError::Short(len)) => (SHORT, len),
+        Ok(len) => Ended::Written(len),
+        Err(CompileError::Fault(fault)) => Ended::Fault(fault.cause, fault.detail),
+        Err(CompileError::Short(len)) => Ended::Short(len),
     }
 }
 

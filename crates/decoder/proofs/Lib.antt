@@ -1,2 +1,1 @@
 pub mod Variables
-pub mod Clips

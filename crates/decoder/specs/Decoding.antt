@@ -7,7 +7,7 @@ use Rattle.meaning.specs.declared.tree.Span.{Span}
 use Rattle.meaning.specs.Tree.{LoopVars, Item, KeyValue}
 use Rattle.program.specs.Program as program
 use Rattle.reader.specs.Fields.{members_of, text_of}
-use Rattle.reader.specs.Meanings.{EightBytes, plain_of}
+use Rattle.reader.specs.Meanings.{plain_of}
 use Rattle.decoder.specs.declared.decoded.Decoded.{Decoded}
 use Rattle.decoder.specs.declared.decoded.Decoded.TheVariants as instr
 use Rattle.decoder.specs.declared.decoded.LoopVars as decoded
@@ -57,7 +57,7 @@ abbrev pub meaning : code.Option Decoded → Option program.Instr
 meaning (Some d) = decoded_instr d
 meaning None = none
 
--- a variable has some member, and a number of a literal its eight bytes
+-- a variable has some member
 abbrev pub IsSound : Decoded → Type 0
 IsSound (instr.Jump t) = Unit {0}
 IsSound (instr.JumpIfTrue t) = Unit {0}
@@ -72,7 +72,7 @@ IsSound instr.WithEnd = Unit {0}
 IsSound (instr.Include name) = Unit {0}
 IsSound (instr.IncludeWith name) = Unit {0}
 IsSound (instr.ExprStartVar ms) = 1 ≤ length (members_of ms)
-IsSound (instr.ExprStartLiteral s v) = EightBytes v
+IsSound (instr.ExprStartLiteral s v) = Unit {0}
 IsSound (instr.ExprStartList s) = Unit {0}
 IsSound (instr.ExprStartMap s) = Unit {0}
 IsSound instr.ExprListPush = Unit {0}

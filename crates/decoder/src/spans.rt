@@ -1,29 +1,16 @@
-//! The spans of expressions, and the source under a span.
+//! The spans of expressions.
 
 ghost use Rattle.std.specs.Prelude.{◌≡◌};
 ghost use Rattle.compiler.specs.Records.{head_span, members_span};
 ghost use Rattle.decoder.specs.Decoding.{found};
-ghost use Rattle.meaning.specs.Spans.{combine, text_at};
+ghost use Rattle.meaning.specs.Spans.{combine};
 ghost use Rattle.reader.specs.Fields.{as_it_is, members_of};
 ghost use Rattle.reader.specs.Heads.{BaseOf};
 ghost use Rattle.reader.specs.Meanings.{base_of, expr_of};
 
 use meaning::tree::Span;
 use reader::command::{BaseCommand, ExprCommand};
-use reader::field::{Members, read_member};
-
-/// The source under a span; of a span that is reversed nothing, and of one past the source what there is.
-pub fn text_under<'s>(source: &'s [u8], span: Span) -> &'s [u8]
-    ensures { result.now ≡ text_at source.now span }
-{
-    let start = span.start as usize;
-    let end = source.len().min(span.end as usize);
-    if start < end {
-        &source[start..end]
-    } else {
-        &[]
-    }
-}
+use reader::field::Members;
 
 /// The least span over two.
 fn combine_spans(a: Span, b: Span) -> Span
@@ -39,17 +26,11 @@ fn combine_spans(a: Span, b: Span) -> Span
 pub fn members_span(members: Members) -> Option<Span>
     ensures { found as_it_is result ≡ members_span (members_of members.entry) }
 {
-    if members.count == 0 {
-        return None;
-    }
-    let (first, mut at) = read_member(members.bytes, 0)?;
+    let mut left = members;
+    let first = left.next()?;
     let mut last = first;
-    for _member in 1..members.count {
-        let Some((member, next)) = read_member(members.bytes, at) else {
-            break;
-        };
+    for member in left {
         last = member;
-        at = next;
     }
     Some(combine_spans(first.span, last.span))
 }
@@ -60,12 +41,12 @@ fn base_span(command: BaseCommand) -> Option<Span>
 {
     match command {
         BaseCommand::Variable(members) => members_span(members),
-        BaseCommand::Literal(span) => Some(span),
-        BaseCommand::List(span, _) => Some(span),
-        BaseCommand::EmptyMap(span) => Some(span),
-        BaseCommand::Map(span, _, _) => Some(span),
-        BaseCommand::Paren(span) => Some(span),
-        BaseCommand::Call(_, whole, _) => Some(whole),
+        BaseCommand::Literal(span)
+        | BaseCommand::List(span, _)
+        | BaseCommand::EmptyMap(span)
+        | BaseCommand::Map(span, _, _)
+        | BaseCommand::Paren(span)
+        | BaseCommand::Call(_, span, _) => Some(span),
     }
 }
 

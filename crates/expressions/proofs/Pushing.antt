@@ -20,8 +20,8 @@ use Rattle.expressions.specs.Pushing.{Joins, Pushes, StandsOnTop, Tops}
 -- none takes nothing of the store
 pub none_made : (s : Store) (v : Value) → v ≡ none → Made s s (cost v) v (Ok None)
 none_made s v e =
-    let cells : (used s).cells + 0 ≤ min 65535 (length s.cells.now) = le-min (omega (arith, s.cells_fit)) (omega (arith, s.cells_fit)) in
-    let bytes : (used s).bytes + 0 ≤ min 65535 (length s.text.now) = le-min (omega (arith, s.bytes_fit)) (omega (arith, s.bytes_fit)) in
+    let cells : (used s).cells + 0 ≤ min 65535 (length s.cells.now) = le-min (omega (arith, s.supplied.cells_fit)) (omega (arith, s.supplied.cells_fit)) in
+    let bytes : (used s).bytes + 0 ≤ min 65535 (length s.text.now) = le-min (omega (arith, s.supplied.bytes_fit)) (omega (arith, s.supplied.bytes_fit)) in
     rw e (
       rw (le-leb _ _ cells, le-leb _ _ bytes),
       record { grown = record { over = over_itself s; paid = charge_is (sym (add-zero _)) (sym (add-zero _)) }; known = refl; means = refl },

@@ -10,7 +10,6 @@ ghost use Rattle.hosts.specs.Answers.{AllKnown, arguments_in, kind_of};
 ghost use Rattle.expressions.specs.Calling.{Calls, arguments, calling};
 ghost use Rattle.expressions.specs.Pushing.{Pushes};
 
-use decoder::spans::text_under;
 use hosts::answer::{Argument, CallableKind, Unmade};
 use hosts::callables::Callables;
 use meaning::fault::{Cause, Fault};
@@ -26,9 +25,8 @@ fn blamed_span(args: &[Argument], argument: Option<usize>, call: Span) -> Span
     let Some(number) = argument else {
         return call;
     };
-    if number < args.len() {
-        args[number].span
-    } else {
-        call
+    match args.get(number) {
+        Some(blamed) => blamed.span,
+        None => call,
     }
 }

@@ -1,10 +1,11 @@
-//! Literals, lists and maps.
+//! Literals, lists and maps. The store stands beside the stack of values: scopes and hosts use it between two of
+//! these calls.
 
 ghost use Rattle.std.specs.Prelude.{◌≡◌, ◌∷◌};
 ghost use Rattle.meaning.specs.Charge.{cell_and_text, charge, cost, one_cell};
 ghost use Rattle.meaning.specs.Value.{list, map, no_entries, no_items};
 ghost use Rattle.stack.specs.Entries.{Kept, entries};
-ghost use Rattle.reader.specs.Meanings.{EightBytes, plain_of};
+ghost use Rattle.reader.specs.Meanings.{plain_of};
 ghost use Rattle.store.specs.Stores.{Made, supply, used};
 ghost use Rattle.store.specs.Values.{inserted, pushed};
 ghost use Rattle.hosts.specs.Answers.{AllKnown};
@@ -13,7 +14,7 @@ ghost use Rattle.expressions.specs.Pushing.{Joins, Pushes, Spare, Tops, Two};
 use hosts::answer::Argument;
 use meaning::fault::{Cause, Fault};
 use meaning::tree::Span;
-use reader::literal::{PlainValue, bits_of, integer_of};
+use reader::literal::PlainValue;
 use stack::Stack;
 use store::cell::Ref;
 use store::kinds::Kind;
@@ -29,9 +30,7 @@ pub fn push_value(
     ensures kept { Kept values.old values.new }
     ensures tops { Tops (entries values.old) (entries values.new) span made result }
 {
-    let Ok(value) = made else {
-        return Err(Fault::at(Cause::StoreFull, span, 0));
-    };
+    let value = made.ok().ok_or(Fault::at(Cause::StoreFull, span, 0))?;
     match values.push(Argument { value, span }) {
         Ok(()) => Ok(()),
         Err(_) => unreachable(),
@@ -48,6 +47,7 @@ pub fn start_list(values: &mut Stack<Argument>, store: &mut Store, span: Span) -
     push_value(values, made, span)
 }
 
+// what is made tells it from `start_list`, and stands in the call
 pub fn start_map(values: &mut Stack<Argument>, store: &mut Store, span: Span) -> Result<(), Fault>
     requires spare { Spare values.old }
     requires known { AllKnown store.old (entries values.old) }
@@ -60,15 +60,14 @@ pub fn start_map(values: &mut Stack<Argument>, store: &mut Store, span: Span) ->
 
 /// Makes a literal's value.
 fn make_literal(store: &mut Store, value: PlainValue) -> Result<Ref, Full>
-    requires { EightBytes value }
     ensures { Made store.old store.new (cost (plain_of value.entry)) (plain_of value.entry) result }
 {
     match value {
         PlainValue::Nothing => Ok(Ref::None),
         PlainValue::False => store.make_boolean(false),
         PlainValue::True => store.make_boolean(true),
-        PlainValue::Integer(bytes) => store.make_integer(integer_of(bytes)),
-        PlainValue::Float(bytes) => store.make_float(bits_of(bytes)),
+        PlainValue::Integer(n) => store.make_integer(n),
+        PlainValue::Float(bits) => store.make_float(bits),
         PlainValue::String(bytes) => store.make_string(bytes),
     }
 }
@@ -81,7 +80,6 @@ pub fn start_literal(
 ) -> Result<(), Fault>
     requires spare { Spare values.old }
     requires known { AllKnown store.old (entries values.old) }
-    requires eight { EightBytes value }
     ensures kept { Kept values.old values.new }
     ensures pushes { Pushes store.old store.new (entries values.old) (entries values.new) span (charge (supply store.old) span (cost (plain_of value.entry)) (plain_of value.entry) (used store.old)) result }
 {

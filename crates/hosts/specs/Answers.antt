@@ -1,5 +1,5 @@
 -- What hosts answer in code, from what they mean.
-use Rattle.std.specs.Prelude.{◌≡◌, ℕ, ◌≤◌, true, false, cond, List, [], ◌∷◌, map as each, length, take, Ok, Err, Result, nat_le}
+use Rattle.std.specs.Prelude.{◌≡◌, ℕ, ◌≤◌, true, false, cond, List, [], ◌∷◌, map as each, length, take, Some, None, Option, Ok, Err, Result, nat_le}
 use Rattle.meaning.specs.Or.{Or, fails, gives}
 use Rattle.meaning.specs.Value.{Value, Text}
 use Rattle.meaning.specs.Charge.{◌⊕◌, cost, within}
@@ -51,10 +51,10 @@ Answers why before after (fails w) (Err (unmade.Refused e)) = (why e ≡ w) × P
 
 -- CALLABLES
 
-abbrev pub kind_of : Callable → CallableKind
-kind_of nothing = kinds.Nothing
-kind_of (formatter f) = kinds.Formatter
-kind_of (function f) = kinds.Function
+abbrev pub kind_of : Callable → Option CallableKind
+kind_of nothing = None
+kind_of (formatter f) = Some kinds.Formatter
+kind_of (function f) = Some kinds.Function
 
 -- the formatter that a name stands for; one that refuses everything where it stands for none
 abbrev pub formatter_of : Callable → Formatter

@@ -34,10 +34,9 @@ pub struct Refusal {
     pub argument: Option<usize>,
 }
 
-/// What a name stands for.
-#[derive(Clone, Copy)]
+/// What a name stands for, if it stands for anything.
+#[derive(Clone, Copy, PartialEq, Eq, Debug)]
 pub enum CallableKind {
-    Nothing,
     Formatter,
     Function,
 }

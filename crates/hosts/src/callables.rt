@@ -1,6 +1,6 @@
 //! Callables: formatters and functions by name.
 
-ghost use Rattle.std.specs.Prelude.{◌≡◌, length};
+ghost use Rattle.std.specs.Prelude.{◌≡◌, length, Some};
 ghost use Rattle.meaning.specs.Hosts.{Callable};
 ghost use Rattle.meaning.specs.Value.{Text};
 ghost use Rattle.store.specs.Stores.{Known, value as value_in};
@@ -17,7 +17,7 @@ pub trait Callables {
     /// Texts and values are well-formed, if those given are.
     ghost texts: { (self : Self) (name : Text) → CallableTexts (named self name) };
 
-    fn kind(&self, name: &[u8]) -> CallableKind
+    fn kind(&self, name: &[u8]) -> Option<CallableKind>
         ensures { result ≡ kind_of (named self.now name.now) };
 
     /// The formatter of that name: it writes the text to the front of the buffer and answers its length.
@@ -28,7 +28,7 @@ pub trait Callables {
         value: Ref,
         buffer: &mut [u8],
     ) -> Result<usize, Unwritten>
-        requires formatter { kind_of (named self.now name.now) ≡ CallableKind.Formatter }
+        requires formatter { kind_of (named self.now name.now) ≡ Some CallableKind.Formatter }
         requires known { Known store.now value }
         ensures answers { written result buffer.new ≡ fitted (length buffer.old) (formatter_of (named self.now name.now) (value_in store.now value)) }
         ensures within { Within result buffer.old };
@@ -40,7 +40,7 @@ pub trait Callables {
         args: &[Argument],
         store: &mut Store,
     ) -> Result<Ref, Unmade<Refusal>>
-        requires function { kind_of (named self.now name.now) ≡ CallableKind.Function }
+        requires function { kind_of (named self.now name.now) ≡ Some CallableKind.Function }
         requires known { AllKnown store.old args.now }
         ensures { Answers blame_of store.old store.new (function_of (named self.now name.now) (values_in store.old args.now)) result };
 }

@@ -1,32 +1,45 @@
 -- What is outlined of a part, once what is outlined of the parts within it is known.
-use Rattle.std.proofs.Common.{◌≡◌, ℕ, ◌+◌, ◌&&◌, leb, List, [], ◌∷◌, ◌++◌, length, IfOk, Ok, Err, codes, Result, sym, ◌∙◌, subst, arith, length-append, leb-true}
+use Rattle.std.proofs.Common.{◌≡◌, ℕ, ◌+◌, ◌≤◌, List, ◌++◌, length, IfOk, Some, Ok, Err, codes, Result, sym, ◌∙◌, subst, arith, length-append}
 use Rattle.std.specs.declared.alloc.AllocError.{AllocError}
-use Rattle.meaning.specs.declared.tree.Member.{Member}
 use Rattle.meaning.specs.declared.tree.Span.{Span}
-use Rattle.meaning.specs.Tree.{Expr, BaseExpr, Args, Stmt, Base, Filter}
-use Rattle.packing.specs.Rfc3629.{between_characters}
-use Rattle.packing.specs.Limits.{Inside, inside, MembersFit}
-use Rattle.packing.specs.Packing.{pack_expr, pack_args}
-use Rattle.packing.proofs.Fields.{both_true}
-use Rattle.checker.specs.TreeHeads.{base_behind, expr_behind, stmt_behind}
-use Rattle.job.specs.Lines.{Adds, Lies, MembersLie, spans_line}
+use Rattle.meaning.specs.Tree.{Expr, BaseExpr, Args, Stmt, Scope, Base, Filter}
+use Rattle.packing.specs.Limits.{most_bytes}
+use Rattle.packing.specs.Packing.{pack, pack_expr, pack_args}
+use Rattle.reader.specs.declared.command.ExprCommand.{ExprCommand}
+use Rattle.reader.specs.declared.command.ScopeCommand.{ScopeCommand}
+use Rattle.reader.specs.Fields.{Takes}
+use Rattle.reader.specs.Heads.{BaseHead, ExprHead, ScopeHead, StmtHead, expr_head, scope_head}
+use Rattle.reader.specs.Meanings.{expr_of, scope_of}
+use Rattle.checker.specs.There.{BehindBase, BehindStmt, ExprThere}
+use Rattle.checker.specs.TreeHeads.{base_behind, expr_behind, scope_behind, stmt_behind}
+use Rattle.checker.proofs.Parts.{BaseParts, ExprParts, ScopeParts, StmtParts, base_parts, expr_parts, scope_parts, stmt_parts}
+use Rattle.checker.proofs.Walking.{expr_headed, scope_headed}
+use Rattle.job.proofs.Rows.{ScopeLeft}
+use Rattle.job.specs.Lines.{Adds, spans_line}
 use Rattle.job.specs.Outline.{outline_expr, outline_base, outline_args, outline_stmt}
 use Rattle.job.specs.Outlined.{Outlined}
 use Rattle.job.proofs.Writing.{then_adds, then_wrote}
 
--- SPANS
+-- WHAT STANDS BEHIND A HEAD
 
--- a span that is well placed lies within the source
-pub lies : (source : List ℕ) (s : Span) → Inside source s → Lies source s
-unfolding inside
-lies source s placed =
-    let tests = both_true (leb s.start s.end) (between_characters source s.start && between_characters source s.end) placed in
-    let ends = both_true (between_characters source s.start) (between_characters source s.end) tests.1 in
-    (leb-true s.start s.end tests.0, leb-true s.end (length source) (both_true (leb s.end (length source)) _ ends.1).0)
+module _ {source tree : List ℕ} {pos : ℕ} where
+  pub base_there : {head : BaseHead} (w : BehindBase source tree head pos) (is : BaseHead) → head ≡ is → BaseParts source tree pos w.base is
+  base_there w is e = base_parts source tree pos w.base is (w.headed ∙ e) w.fits w.stands
 
-pub members_lie : (source : List ℕ) (ms : List Member) → MembersFit source ms → MembersLie source ms
-members_lie source [] f = tt
-members_lie source (m ∷ ms) f = (lies source m.span f.0.placed, members_lie source ms f.1)
+  pub stmt_there : {head : StmtHead} (w : BehindStmt source tree head pos) (is : StmtHead) → head ≡ is → StmtParts source tree pos w.stmt is
+  stmt_there w is e = stmt_parts source tree pos w.stmt is (w.headed ∙ e) w.fits w.stands
+
+-- where an expression stands, the command that is read says which one it is
+pub expr_next : {source tree : List ℕ} {pos : ℕ} → length source ≤ most_bytes → (w : ExprThere source tree pos) (x : ExprCommand) (next : ℕ) → next ≤ length tree → Takes expr_of tree pos expr_head (Some (x, next)) → (is : ExprHead) → expr_of x ≡ is → (next + length (expr_behind w.expr) ≡ pos + length (pack_expr w.expr)) × ExprParts source tree next w.expr is
+expr_next {source} {tree} {pos} short w x next inside takes is e =
+    let headed = expr_headed source tree pos short w x next inside takes in
+    (headed.ends, expr_parts source tree next w.expr is (sym headed.head ∙ e) w.fits headed.stands)
+
+-- the same of the statements that are left
+pub scope_next : {source tree : List ℕ} {depth end at : ℕ} {all : Scope} {before now : List ℕ} → length source ≤ most_bytes → (left : ScopeLeft source tree depth all end before at now) (x : ScopeCommand) (next : ℕ) → next ≤ length tree → Takes scope_of tree at scope_head (Some (x, next)) → (is : ScopeHead) → scope_of x ≡ is → (next + length (scope_behind left.rest) ≡ at + length (pack left.rest)) × ScopeParts source tree next left.rest is
+scope_next {source = source} {tree = tree} {at = at} short left x next inside takes is e =
+    let headed = scope_headed source tree at short (record { scope = left.rest; fits = left.fits; stands = left.stands }) x next inside takes in
+    (headed.ends, scope_parts source tree next left.rest is (sym headed.head ∙ e) left.fits headed.stands)
 
 -- ONE AFTER ANOTHER
 

@@ -1,13 +1,18 @@
 -- Words of a line, read byte by byte.
-use Rattle.std.proofs.Common.{◌≡◌, ℕ, ◌+◌, ◌*◌, ◌<◌, ◌≤◌, List, [], ◌∷◌, ◌++◌, length, get_or, drop, Ok, Err, Result, sym, refl, ap, ◌∙◌, append_assoc, append-nil, add-one, arith, drop_of_length-le, drop-cons, ne_eqb}
+use Rattle.std.proofs.Common.{◌≡◌, ℕ, ◌+◌, ◌-◌, ◌*◌, ◌<◌, ◌≤◌, Bool, true, Bor, cond, List, [], ◌∷◌, ◌++◌, length, get_or, take, drop, take_all, Some, None, Ok, Err, codes, Result, sym, refl, ap, ◌∙◌, append_assoc, arith, ne_eqb, length-drop, length-take}
+use Rattle.std.proofs.lemmas.Cmp.{nat_list_eq_equiv}
 use mathlib.Core.Option.{none, some}
+use Rattle.std.specs.Str.{bytes_eq as same_text}
+use Rattle.std.specs.Option.{ok_or}
+use Rattle.std.specs.declared.option.Option.{Option}
 use Rattle.meaning.specs.Or.{Or, fails, gives}
 use Rattle.job.specs.declared.word.BadLine.{BadLine}
-use Rattle.job.specs.declared.word.BadLine.TheVariants.{MissingWord, NotHex, OddDigits, BadEscape, OpenQuote, NoSpace}
+use Rattle.job.specs.declared.word.BadLine.TheVariants.{MissingWord, MoreWords, NoCall, NotHex, BadEscape, OpenQuote, NoSpace}
+use Rattle.job.specs.declared.line.Line.{Line}
 use Rattle.job.specs.declared.word.Failure.{Failure}
 use Rattle.job.specs.declared.word.Failure.TheVariants.{Memory, Bad}
-use Rattle.job.specs.Calls.{space}
-use Rattle.job.specs.Words.{Told, Reads, digit, before, hex, unescaped, unquote, word}
+use Rattle.job.specs.Calls.{Asks, AsksToAdd, added, call_of, line_end, passed_over, read_off, space}
+use Rattle.job.specs.Words.{NextDigit, Reads, Told, before, behind_backslash, digit, hex, second_digit, unescaped, unquote, word}
 
 -- bytes that were read before the others
 abbrev pub behind : List ℕ → Or BadLine (List ℕ × List ℕ) → Or BadLine (List ℕ × List ℕ)
@@ -22,126 +27,190 @@ pub behind_one : (bytes : List ℕ) (b : ℕ) (o : Or BadLine (List ℕ × List 
 behind_one bytes b (gives (more, rest)) = ap (λ s. gives (s, rest)) (sym (append_assoc bytes (b ∷ []) more))
 behind_one bytes b (fails bad) = refl
 
--- the byte at a place, and what is behind it
-pub here : (line : List ℕ) (at : ℕ) → at < length line → drop at line ≡ get_or line at 0 ∷ drop (at + 1) line
-here line at h = drop-cons line at 0 h ∙ ap (λ n. get_or line at 0 ∷ drop n line) (sym (add-one at))
+-- WHAT STANDS IN FRONT
 
-module _ (line : List ℕ) (at : ℕ) (bytes : List ℕ) (whole : Or BadLine (List ℕ × List ℕ)) (inv : behind bytes (hex (drop at line)) ≡ whole) where
-  -- at the end, or at a space
-  pub hex_ends : length line ≤ at → whole ≡ gives (bytes, drop at line)
-  unfolding hex
-  hex_ends past = sym inv ∙ rw (drop_of_length-le line past, append-nil)
+-- what is behind the first byte
+pub behind_first : (c : ℕ) (s : List ℕ) → take (length (c ∷ s) - 1) (drop 1 (c ∷ s)) ≡ s
+behind_first c s = take_all (length (c ∷ s) - 1) s (omega arith)
 
-  pub hex_stops : at < length line → get_or line at 0 ≡ 32 → whole ≡ gives (bytes, drop at line)
-  unfolding hex
-  hex_stops h space = sym inv ∙ rw (here line at h, space, append-nil)
+pub shorter : (line : List ℕ) → 1 ≤ length line → length (take (length line - 1) (drop 1 line)) < length line
+shorter line h = omega (arith, length-drop 1 line, length-take (length line - 1) (drop 1 line))
 
-  module _ (h : at < length line) (other : get_or line at 0 ≡ 32 → ⊥) where
-    pub hex_bad : digit (get_or line at 0) ≡ none → whole ≡ fails NotHex
-    unfolding hex
-    hex_bad bad = sym inv ∙ rw (here line at h, ne_eqb (get_or line at 0) 32 other, bad)
+pub ok_or_err : {T E : Type 0} (o : Option T) (e b : E) → Err e ≡ ok_or o b → (o ≡ None) × (e ≡ b)
+ok_or_err None e b is = (refl, cc)
+ok_or_err (Some n) e b is = absurd cc
 
-    module _ (high : ℕ) (first : digit (get_or line at 0) ≡ some high) where
-      pub hex_cut : at + 1 ≡ length line → whole ≡ fails OddDigits
-      unfolding hex
-      hex_cut end =
-          let past : length line ≤ at + 1 = omega arith in
-          sym inv ∙ rw (here line at h, ne_eqb (get_or line at 0) 32 other, first, drop_of_length-le line past)
+-- digits
+pub digit_none : (line : List ℕ) → length line < 1 → NextDigit line (Ok None)
+unfolding hex
+digit_none [] h = (refl, λ high. refl)
+digit_none (c ∷ s) h = absurd (omega arith)
 
-      module _ (h' : at + 1 < length line) where
-        pub hex_odd : get_or line (at + 1) 0 ≡ 32 → whole ≡ fails OddDigits
-        unfolding hex
-        hex_odd space = sym inv ∙ rw (here line at h, ne_eqb (get_or line at 0) 32 other, first, here line (at + 1) h', space)
+pub digit_space : (line : List ℕ) → 1 ≤ length line → get_or line 0 0 ≡ 32 → NextDigit line (Ok None)
+unfolding hex
+digit_space [] h is = absurd (omega arith)
+digit_space (c ∷ s) h is = (rw is, λ high. rw is)
 
-        module _ (other' : get_or line (at + 1) 0 ≡ 32 → ⊥) where
-          pub hex_bad_second : digit (get_or line (at + 1) 0) ≡ none → whole ≡ fails NotHex
-          unfolding hex
-          hex_bad_second bad = sym inv ∙ rw (here line at h, ne_eqb (get_or line at 0) 32 other, first, here line (at + 1) h', ne_eqb (get_or line (at + 1) 0) 32 other', bad)
+pub digit_bad : (line : List ℕ) → 1 ≤ length line → (get_or line 0 0 ≡ 32 → ⊥) → digit (get_or line 0 0) ≡ none → NextDigit line (Err NotHex)
+unfolding hex
+digit_bad [] h other bad = absurd (omega arith)
+digit_bad (c ∷ s) h other bad = (rw (ne_eqb c 32 other, bad), λ high. rw (ne_eqb c 32 other, bad))
 
-          pub hex_more : (low : ℕ) → digit (get_or line (at + 1) 0) ≡ some low → behind (bytes ++ ((high * 16 + low) ∷ [])) (hex (drop (at + 2) line)) ≡ whole
-          unfolding hex
-          hex_more low second =
-              let two : at + 2 ≡ at + 1 + 1 = omega arith in
-              ap (λ n. behind (bytes ++ ((high * 16 + low) ∷ [])) (hex (drop n line))) two
-              ∙ sym (behind_one bytes (high * 16 + low) (hex (drop (at + 1 + 1) line)))
-              ∙ rw (here line at h, ne_eqb (get_or line at 0) 32 other, first, here line (at + 1) h', ne_eqb (get_or line (at + 1) 0) 32 other', second) at inv
+pub digit_good : (line : List ℕ) (n : ℕ) → 1 ≤ length line → (get_or line 0 0 ≡ 32 → ⊥) → digit (get_or line 0 0) ≡ some n →
+    let rest = take (length line - 1) (drop 1 line) in
+    (hex line ≡ second_digit n rest) × ((high : ℕ) → second_digit high line ≡ before (high * 16 + n) (hex rest))
+unfolding hex
+digit_good [] n h other good = absurd (omega arith)
+digit_good (c ∷ s) n h other good = (rw (behind_first c s, ne_eqb c 32 other, good), λ high. rw (behind_first c s, ne_eqb c 32 other, good))
 
-module _ (line : List ℕ) (at : ℕ) (bytes : List ℕ) (whole : Or BadLine (List ℕ × List ℕ)) (inv : behind bytes (unquote (drop at line)) ≡ whole) where
-  pub quote_open : length line ≤ at → whole ≡ fails OpenQuote
-  unfolding unquote
-  quote_open past = sym inv ∙ rw (drop_of_length-le line past)
+-- texts
+pub quoted_none : (line : List ℕ) → length line < 1 → unquote line ≡ fails OpenQuote
+unfolding unquote
+quoted_none [] h = refl
+quoted_none (c ∷ s) h = absurd (omega arith)
 
-  module _ (h : at < length line) where
-    pub quote_closes : get_or line at 0 ≡ 34 → whole ≡ gives (bytes, drop (at + 1) line)
-    unfolding unquote
-    quote_closes quote = sym inv ∙ rw (here line at h, quote, append-nil)
+pub quoted_closes : (line : List ℕ) → 1 ≤ length line → get_or line 0 0 ≡ 34 → unquote line ≡ gives ([], take (length line - 1) (drop 1 line))
+unfolding unquote
+quoted_closes [] h is = absurd (omega arith)
+quoted_closes (c ∷ s) h is = rw (behind_first c s, is)
 
-    module _ (other : get_or line at 0 ≡ 34 → ⊥) where
-      pub quote_plain : (get_or line at 0 ≡ 92 → ⊥) → behind (bytes ++ (get_or line at 0 ∷ [])) (unquote (drop (at + 1) line)) ≡ whole
-      unfolding unquote
-      quote_plain plain =
-          sym (behind_one bytes (get_or line at 0) (unquote (drop (at + 1) line)))
-          ∙ rw (here line at h, ne_eqb (get_or line at 0) 34 other, ne_eqb (get_or line at 0) 92 plain) at inv
+pub quoted_plain : (line : List ℕ) → 1 ≤ length line → (get_or line 0 0 ≡ 34 → ⊥) → (get_or line 0 0 ≡ 92 → ⊥) → unquote line ≡ before (get_or line 0 0) (unquote (take (length line - 1) (drop 1 line)))
+unfolding unquote
+quoted_plain [] h quote slash = absurd (omega arith)
+quoted_plain (c ∷ s) h quote slash = rw (behind_first c s, ne_eqb c 34 quote, ne_eqb c 92 slash)
 
-      module _ (backslash : get_or line at 0 ≡ 92) where
-        pub quote_cut : at + 1 ≡ length line → whole ≡ fails OpenQuote
-        unfolding unquote
-        quote_cut end =
-            let past : length line ≤ at + 1 = omega arith in
-            sym inv ∙ rw (here line at h, backslash, drop_of_length-le line past)
+pub quoted_escape : (line : List ℕ) → 1 ≤ length line → get_or line 0 0 ≡ 92 → unquote line ≡ behind_backslash (take (length line - 1) (drop 1 line))
+unfolding unquote
+quoted_escape [] h is = absurd (omega arith)
+quoted_escape (c ∷ s) h is = rw (behind_first c s, is)
 
-        module _ (h' : at + 1 < length line) where
-          pub quote_bad : unescaped (get_or line (at + 1) 0) ≡ none → whole ≡ fails BadEscape
-          unfolding unquote
-          quote_bad bad = sym inv ∙ rw (here line at h, backslash, here line (at + 1) h', bad)
+pub escape_none : (line : List ℕ) → length line < 1 → behind_backslash line ≡ fails OpenQuote
+unfolding unquote
+escape_none [] h = refl
+escape_none (c ∷ s) h = absurd (omega arith)
 
-          pub quote_more : (b : ℕ) → unescaped (get_or line (at + 1) 0) ≡ some b → behind (bytes ++ (b ∷ [])) (unquote (drop (at + 2) line)) ≡ whole
-          unfolding unquote
-          quote_more b good =
-              let two : at + 2 ≡ at + 1 + 1 = omega arith in
-              ap (λ n. behind (bytes ++ (b ∷ [])) (unquote (drop n line))) two
-              ∙ sym (behind_one bytes b (unquote (drop (at + 1 + 1) line)))
-              ∙ rw (here line at h, backslash, here line (at + 1) h', good) at inv
+pub escape_bad : (line : List ℕ) → 1 ≤ length line → unescaped (get_or line 0 0) ≡ none → behind_backslash line ≡ fails BadEscape
+unfolding unquote
+escape_bad [] h bad = absurd (omega arith)
+escape_bad (c ∷ s) h bad = rw bad
 
--- WHOLE WORDS
+pub escape_good : (line : List ℕ) (b : ℕ) → 1 ≤ length line → unescaped (get_or line 0 0) ≡ some b → behind_backslash line ≡ before b (unquote (take (length line - 1) (drop 1 line)))
+unfolding unquote
+escape_good [] b h good = absurd (omega arith)
+escape_good (c ∷ s) b h good = rw (behind_first c s, good)
 
-module _ (line : List ℕ) (pos : ℕ) where
-  pub word_none : length line ≤ pos → word (drop pos line) ≡ fails MissingWord
-  unfolding word
-  word_none past = rw (drop_of_length-le line past)
+-- whole words
+pub word_none : (line : List ℕ) → length line < 1 → word line ≡ fails MissingWord
+unfolding word
+word_none [] h = refl
+word_none (c ∷ s) h = absurd (omega arith)
 
-  pub space_none : length line ≤ pos → space (drop pos line) ≡ fails MissingWord
-  unfolding space
-  space_none past = rw (drop_of_length-le line past)
+pub word_space : (line : List ℕ) → 1 ≤ length line → get_or line 0 0 ≡ 32 → word line ≡ fails MissingWord
+unfolding word
+word_space [] h is = absurd (omega arith)
+word_space (c ∷ s) h is = rw is
 
-  module _ (h : pos < length line) where
-    pub word_space : get_or line pos 0 ≡ 32 → word (drop pos line) ≡ fails MissingWord
-    unfolding word
-    word_space is = rw (here line pos h, is)
+pub word_dash : (line : List ℕ) → 1 ≤ length line → get_or line 0 0 ≡ 45 → word line ≡ gives ([], take (length line - 1) (drop 1 line))
+unfolding word
+word_dash [] h is = absurd (omega arith)
+word_dash (c ∷ s) h is = rw (behind_first c s, is)
 
-    pub word_dash : get_or line pos 0 ≡ 45 → word (drop pos line) ≡ gives ([], drop (pos + 1) line)
-    unfolding word
-    word_dash is = rw (here line pos h, is)
+pub word_quote : (line : List ℕ) → 1 ≤ length line → get_or line 0 0 ≡ 34 → word line ≡ unquote (take (length line - 1) (drop 1 line))
+unfolding word
+word_quote [] h is = absurd (omega arith)
+word_quote (c ∷ s) h is = rw (behind_first c s, is)
 
-    pub word_quote : get_or line pos 0 ≡ 34 → word (drop pos line) ≡ unquote (drop (pos + 1) line)
-    unfolding word
-    word_quote is = rw (here line pos h, is)
-
-    pub word_hex : (get_or line pos 0 ≡ 32 → ⊥) → (get_or line pos 0 ≡ 45 → ⊥) → (get_or line pos 0 ≡ 34 → ⊥) → word (drop pos line) ≡ hex (drop pos line)
-    unfolding word
-    word_hex a b c =
-        rw (here line pos h, ne_eqb (get_or line pos 0) 32 a, ne_eqb (get_or line pos 0) 45 b, ne_eqb (get_or line pos 0) 34 c)
-
-    pub space_wrong : (get_or line pos 0 ≡ 32 → ⊥) → space (drop pos line) ≡ fails NoSpace
-    unfolding space
-    space_wrong other = rw (here line pos h, ne_eqb (get_or line pos 0) 32 other)
-
-    pub space_right : get_or line pos 0 ≡ 32 → space (drop pos line) ≡ gives (tt, drop (pos + 1) line)
-    unfolding space
-    space_right is = rw (here line pos h, is)
+pub word_hex : (line : List ℕ) → 1 ≤ length line → (get_or line 0 0 ≡ 32 → ⊥) → (get_or line 0 0 ≡ 45 → ⊥) → (get_or line 0 0 ≡ 34 → ⊥) → word line ≡ hex line
+unfolding word
+word_hex [] h a b d = absurd (omega arith)
+word_hex (c ∷ s) h a b d = rw (ne_eqb c 32 a, ne_eqb c 45 b, ne_eqb c 34 d)
 
 -- what is read in another way is read alike
-pub told_as : {A X : Type 0} (means : X → A) (line : List ℕ) (pos pos' : ℕ) (m n : Reads A) (r : Result (X × ℕ) Failure) → m (drop pos line) ≡ n (drop pos' line) → Told means line pos' n r → Told means line pos m r
-told_as means line pos pos' m n (Ok r) same told = (same ∙ told.0, told.1)
-told_as means line pos pos' m n (Err Memory) same told = tt
-told_as means line pos pos' m n (Err (Bad b)) same told = same ∙ told
+pub told_as : {A X : Type 0} (means : X → A) (line left : List ℕ) (m n : Reads A) (r : Result (X × Bor (List ℕ)) Failure) → m line ≡ n left → Told means left n r → Told means line m r
+told_as means line left m n (Ok r) same told = same ∙ told
+told_as means line left m n (Err Memory) same told = tt
+told_as means line left m n (Err (Bad b)) same told = same ∙ told
+
+-- SPACES, AND WHOLE LINES
+
+pub space_none : (line : List ℕ) → length line < 1 → space line ≡ fails MissingWord
+unfolding space
+space_none [] h = refl
+space_none (c ∷ s) h = absurd (omega arith)
+
+pub space_right : (line : List ℕ) → 1 ≤ length line → get_or line 0 0 ≡ 32 → space line ≡ gives (tt, take (length line - 1) (drop 1 line))
+unfolding space
+space_right [] h is = absurd (omega arith)
+space_right (c ∷ s) h is = rw (behind_first c s, is)
+
+pub space_wrong : (line : List ℕ) → 1 ≤ length line → (get_or line 0 0 ≡ 32 → ⊥) → space line ≡ fails NoSpace
+unfolding space
+space_wrong [] h other = absurd (omega arith)
+space_wrong (c ∷ s) h other = rw (ne_eqb c 32 other)
+
+pub nothing_asked : (line : List ℕ) → length line < 1 → call_of line ≡ gives passed_over
+unfolding call_of
+nothing_asked [] e = refl
+nothing_asked (c ∷ s) e = absurd (omega arith)
+
+pub comment_asks : (line : List ℕ) → 1 ≤ length line → get_or line 0 0 ≡ 35 → call_of line ≡ gives passed_over
+unfolding call_of
+comment_asks [] h e = absurd (omega arith)
+comment_asks (c ∷ s) h e = rw e
+
+pub line_none : (line : List ℕ) → length line < 1 → line_end line ≡ gives (tt, [])
+unfolding line_end
+line_none [] h = refl
+line_none (c ∷ s) h = absurd (omega arith)
+
+pub line_more : (line : List ℕ) → 1 ≤ length line → line_end line ≡ fails MoreWords
+unfolding line_end
+line_more [] h = absurd (omega arith)
+line_more (c ∷ s) h = refl
+
+-- where a word of the call fails
+module _ {X : Type 0} (means : X → List ℕ) (words : List ℕ) where
+  pub name_fails : (e : Failure) → Told means words word (Err e) → AsksToAdd words (Err e)
+  unfolding added
+  name_fails Memory told = tt
+  name_fails (Bad b) told = rw told
+
+  module _ (name behind_name second : List ℕ) (first : word words ≡ gives (name, behind_name)) (gap : space behind_name ≡ gives (tt, second)) where
+    pub source_fails : (e : Failure) → Told means second word (Err e) → AsksToAdd words (Err e)
+    unfolding added
+    source_fails Memory told = tt
+    source_fails (Bad b) told = rw (first, gap, told)
+
+    module _ (source behind_source third : List ℕ) (is : word second ≡ gives (source, behind_source)) (gap' : space behind_source ≡ gives (tt, third)) where
+      pub tree_fails : (e : Failure) → Told means third word (Err e) → AsksToAdd words (Err e)
+      unfolding added
+      tree_fails Memory told = tt
+      tree_fails (Bad b) told = rw (first, gap, is, gap', told)
+
+-- a line that begins with the call's name, and one that doesn't
+pub asks_to_add : (line : List ℕ) → 1 ≤ length line → (get_or line 0 0 ≡ 35 → ⊥) → (r : Bool) → same_text (take 4 line) (codes "add ") ≡ r → call_of line ≡ cond r (read_off (added (drop 4 line))) (fails NoCall)
+unfolding call_of
+asks_to_add [] h other r same = absurd (omega arith)
+asks_to_add (c ∷ s) h other r same = rw (ne_eqb c 35 other, nat_list_eq_equiv.symm (codes "add ") (take 4 (c ∷ s)), same)
+
+module _ (line words : List ℕ) (h : 1 ≤ length line) (other : get_or line 0 0 ≡ 35 → ⊥) (same : same_text (take 4 line) (codes "add ") ≡ true) (left : words ≡ drop 4 line) where
+  pub line_adds : (l : Line) → AsksToAdd words (Ok l) → Asks line (Ok (Some l))
+  line_adds l told = asks_to_add line h other true same ∙ ap (λ s. read_off (added s)) (sym left) ∙ told
+
+  pub line_fails : (e : Failure) → AsksToAdd words (Err e) → Asks line (Err e)
+  line_fails Memory told = tt
+  line_fails (Bad b) told = asks_to_add line h other true same ∙ ap (λ s. read_off (added s)) (sym left) ∙ told
+
+-- WHAT A READER NEEDS OF THESE
+
+pub ruleset digits = (digit_bad, ok_or_err)
+
+pub ruleset texts = (quoted_none, quoted_closes, quoted_plain, quoted_escape, escape_none, escape_bad, escape_good, shorter, ok_or_err)
+
+pub ruleset words = (word_none, word_space, word_dash, word_quote, word_hex, told_as)
+
+pub ruleset spaces = (space_none, space_right, space_wrong)
+
+pub ruleset additions = (line_none, line_more, name_fails, source_fails, tree_fails)
+
+pub ruleset lines = (nothing_asked, comment_asks, asks_to_add, line_adds, line_fails, ok_or_err)

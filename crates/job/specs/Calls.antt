@@ -1,6 +1,8 @@
 -- What a job's line asks for.
-use Rattle.std.specs.Prelude.{◌≡◌, ℕ, ◌-◌, ◌≤◌, cond, ◌&&◌, List, [], ◌∷◌, length, take, drop, Ok, Err, vec_items, codes, Result, ◌==◌, nat_lt, slice_index}
+use Rattle.std.specs.Prelude.{◌≡◌, ℕ, ◌-◌, cond, ◌&&◌, List, [], ◌∷◌, length, take, drop, Some, None, Ok, Err, vec_items, codes, Result, ◌==◌, nat_lt, slice_index}
 use Rattle.std.specs.Str.{bytes_eq as same_text}
+use Rattle.std.specs.Borrow.{Bor}
+use Rattle.std.specs.declared.option.Option as code
 use Rattle.meaning.specs.Or.{Or, fails, gives}
 use Rattle.meaning.specs.Step.{return, ◌>>=◌, ◌>>◌}
 use Rattle.job.specs.declared.word.BadLine.{BadLine}
@@ -8,7 +10,7 @@ use Rattle.job.specs.declared.word.BadLine.TheVariants.{NoCall, MissingWord, NoS
 use Rattle.job.specs.declared.word.Failure.{Failure}
 use Rattle.job.specs.declared.word.Failure.TheVariants.{Memory, Bad}
 use Rattle.job.specs.declared.line.Line.{Line}
-use Rattle.job.specs.declared.line.Line.TheVariants.{Passed, Add}
+use Rattle.job.specs.declared.line.Line.TheVariants.{Add}
 use Rattle.job.specs.Words.{Reads, word}
 
 pub data Call : Type 0 where
@@ -49,19 +51,24 @@ call_of [] = gives passed_over
 call_of (c ∷ s) = cond (c == 35) (gives passed_over) (is_add (c ∷ s))
 
 abbrev pub call_is : Line → Call
-call_is Passed = passed_over
 call_is (Add name source tree) = add (vec_items name) (vec_items source) (vec_items tree)
 
 -- nothing is said where there was no memory
-abbrev pub Asks : List ℕ → Result Line Failure → Type 0
-Asks line (Ok l) = call_of line ≡ gives (call_is l)
+abbrev pub Asks : List ℕ → Result (code.Option Line) Failure → Type 0
+Asks line (Ok None) = call_of line ≡ gives passed_over
+Asks line (Ok (Some l)) = call_of line ≡ gives (call_is l)
 Asks line (Err Memory) = Unit {0}
 Asks line (Err (Bad b)) = call_of line ≡ fails b
 
-abbrev pub Skips : List ℕ → ℕ → Result ℕ Failure → Type 0
-Skips line pos (Ok next) = (space (drop pos line) ≡ gives (tt, drop next line)) × (next ≤ length line)
-Skips line pos (Err Memory) = Unit {0}
-Skips line pos (Err (Bad b)) = space (drop pos line) ≡ fails b
+-- the words behind `add `
+abbrev pub AsksToAdd : (words : List ℕ) → Result Line Failure → Type 0
+AsksToAdd words (Ok l) = read_off (added words) ≡ gives (call_is l)
+AsksToAdd words (Err Memory) = Unit {0}
+AsksToAdd words (Err (Bad b)) = read_off (added words) ≡ fails b
+
+abbrev pub Skips : (left : List ℕ) → Result (Bor (List ℕ)) BadLine → Type 0
+Skips left (Ok rest) = space left ≡ gives (tt, rest.now)
+Skips left (Err bad) = space left ≡ fails bad
 
 -- the bytes without the last one, if it is that one
 abbrev pub without_last : List ℕ → ℕ → List ℕ

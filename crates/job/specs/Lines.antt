@@ -1,5 +1,5 @@
 -- The lines of a report, as bytes.
-use Rattle.std.specs.Prelude.{◌≡◌, ℕ, zero, suc, ◌≤◌, cond, List, [], ◌∷◌, ◌++◌, length, IfOk, codes, decimal, Result, ◌==◌}
+use Rattle.std.specs.Prelude.{◌≡◌, ℕ, zero, suc, cond, List, [], ◌∷◌, ◌++◌, IfOk, codes, decimal, Result, ◌==◌}
 use Rattle.std.specs.declared.alloc.AllocError.{AllocError}
 use Rattle.std.specs.Fmt.{signed_decimal}
 use Rattle.meaning.specs.Value.{Value, none, boolean, integer, float, string, list, map}
@@ -36,14 +36,6 @@ quoted text = codes "\"" ++ (escaped text ++ codes "\"")
 abbrev pub indent : (depth : ℕ) → List ℕ
 indent zero = []
 indent (suc depth) = codes "  " ++ indent depth
-
--- a span lies within the source
-abbrev pub Lies : (source : List ℕ) → Span → Type 0
-Lies source s = (s.start ≤ s.end) × (s.end ≤ length source)
-
-abbrev pub MembersLie : (source : List ℕ) → List Member → Type 0
-MembersLie source [] = Unit {0}
-MembersLie source (m ∷ ms) = Lies source m.span × MembersLie source ms
 
 abbrev pub place : Span → List ℕ
 place s = codes " " ++ (decimal s.start ++ (codes "-" ++ (decimal s.end ++ codes " ")))

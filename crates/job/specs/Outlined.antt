@@ -1,19 +1,12 @@
 -- What the walk that writes an outline promises: of the part that stands at its position, its lines, and the position after it.
-use Rattle.std.specs.Prelude.{◌≡◌, ℕ, ◌+◌, ◌*◌, ◌≤◌, List, length, IfOk, Result}
+use Rattle.std.specs.Prelude.{◌≡◌, ℕ, ◌+◌, List, length, IfOk, Result}
 use Rattle.std.specs.declared.alloc.AllocError.{AllocError}
 use Rattle.reader.specs.Heads.{BaseHead, StmtHead}
-use Rattle.packing.specs.Limits.{most_bytes}
 use Rattle.packing.specs.Packing.{pack_value, pack_expr, pack_base, pack_args, pack_pairs, pack}
 use Rattle.checker.specs.There.{ExprThere, BaseThere, ArgsThere, PairsThere, ScopeThere, BehindBase, BehindStmt, NestedThere, ValueThere}
 use Rattle.checker.specs.TreeHeads.{base_behind, stmt_behind}
 use Rattle.job.specs.Lines.{Wrote, value_line}
 use Rattle.job.specs.Outline.{outline_expr, outline_base, outline_args, outline_pairs, outline_stmt, outline_scope, nested}
-
--- source and tree are short, and the walk goes at most two levels down with each byte
-pub record Walk (source tree : List ℕ) (pos depth : ℕ) : Type 0 where
-  pub source_short : length source ≤ most_bytes
-  pub tree_short : length tree ≤ most_bytes
-  pub shallow : depth ≤ 2 * pos + 1
 
 pub record Outlined (text : List ℕ) (end : ℕ) (r : Result ℕ AllocError) (before after : List ℕ) : Type 0 where
   pub wrote : Wrote text r before after

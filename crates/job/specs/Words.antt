@@ -1,6 +1,8 @@
 -- The words of a job's line: bytes as hexadecimal digits, `-` for none, or text in double quotes.
-use Rattle.std.specs.Prelude.{◌≡◌, ℕ, ◌+◌, ◌-◌, ◌*◌, ◌≤◌, Bool, cond, ◌&&◌, List, [], ◌∷◌, length, drop, Ok, Err, Result, ◌==◌, nat_le}
+use Rattle.std.specs.Prelude.{◌≡◌, ℕ, ◌-◌, ◌*◌, ◌+◌, ◌<◌, Bool, cond, ◌&&◌, List, [], ◌∷◌, length, Some, None, Ok, Err, Result, ◌==◌, nat_le}
 use Rattle.std.proofs.Math.Option.{Option, none, some}
+use Rattle.std.specs.Borrow.{Bor}
+use Rattle.std.specs.declared.option.Option as code
 use Rattle.meaning.specs.Or.{Or, fails, gives}
 use Rattle.meaning.specs.Step.{Step}
 use Rattle.job.specs.declared.word.BadLine.{BadLine}
@@ -65,8 +67,27 @@ unfoldable pub word : Reads (List ℕ)
 word [] = fails MissingWord
 word (c ∷ s) = cond (c == 32) (fails MissingWord) (cond (c == 45) (gives ([], s)) (cond (c == 34) (unquote s) (hex (c ∷ s))))
 
--- what code reads at a position is what is read off the bytes left there; nothing is said where there was no memory
-abbrev pub Told : {A X : Type 0} → (X → A) → List ℕ → ℕ → Reads A → Result (X × ℕ) Failure → Type 0
-Told means line pos m (Ok r) = (m (drop pos line) ≡ gives (means r.0, drop r.1 line)) × (r.1 ≤ length line)
-Told means line pos m (Err Memory) = Unit {0}
-Told means line pos m (Err (Bad b)) = m (drop pos line) ≡ fails b
+-- the next digit of a word, by what it means as the first of a byte and as the second
+abbrev pub NextDigit : (left : List ℕ) → Result (code.Option (ℕ × Bor (List ℕ))) BadLine → Type 0
+NextDigit left (Ok None) = (hex left ≡ gives ([], left)) × ((high : ℕ) → second_digit high left ≡ fails OddDigits)
+NextDigit left (Ok (Some next)) =
+    (hex left ≡ second_digit next.0 next.1.now)
+    × ((high : ℕ) → second_digit high left ≡ before (high * 16 + next.0) (hex next.1.now))
+    × (next.0 < 16)
+    × (length next.1.now < length left)
+NextDigit left (Err bad) = (hex left ≡ fails bad) × ((high : ℕ) → second_digit high left ≡ fails bad)
+
+-- the next byte of a text, if it is not at its closing quote, and what is behind
+abbrev pub after_quoted : code.Option ℕ → (rest : List ℕ) → Or BadLine (List ℕ × List ℕ)
+after_quoted None rest = gives ([], rest)
+after_quoted (Some b) rest = before b (unquote rest)
+
+abbrev pub NextQuoted : (left : List ℕ) → Result (code.Option ℕ × Bor (List ℕ)) BadLine → Type 0
+NextQuoted left (Ok next) = (unquote left ≡ after_quoted next.0 next.1.now) × (length next.1.now < length left)
+NextQuoted left (Err bad) = unquote left ≡ fails bad
+
+-- what code reads is what is read off the bytes that are left; nothing is said where there was no memory
+abbrev pub Told : {A X : Type 0} → (X → A) → (left : List ℕ) → Reads A → Result (X × Bor (List ℕ)) Failure → Type 0
+Told means left m (Ok r) = m left ≡ gives (means r.0, r.1.now)
+Told means left m (Err Memory) = Unit {0}
+Told means left m (Err (Bad b)) = m left ≡ fails b

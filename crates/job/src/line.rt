@@ -1,7 +1,7 @@
 //! The lines of a job: what each asks for.
 
-ghost use Rattle.std.specs.Prelude.{◌≡◌, ◌≤◌, length};
-ghost use Rattle.job.specs.Calls.{Asks, Skips, without_last};
+ghost use Rattle.std.specs.Prelude.{◌≡◌};
+ghost use Rattle.job.specs.Calls.{Asks, AsksToAdd, Skips, without_last};
 
 use crate::word::{BadLine, Failure, read_word};
 use std::alloc::Global;
@@ -9,56 +9,64 @@ use std::alloc::Global;
 /// What a line asks for.
 #[derive(Drop)]
 pub enum Line {
-    /// Nothing: it is empty, or a comment.
-    Passed,
     /// A template of a name, by its source and its packed tree.
-    Add(Vec<u8>, Vec<u8>, Vec<u8>),
+    Add {
+        name: Vec<u8>,
+        source: Vec<u8>,
+        tree: Vec<u8>,
+    },
 }
 
-/// The position behind the one space at a position.
-fn skip_space(line: &[u8], pos: usize) -> Result<usize, Failure>
-    requires { pos ≤ length line.now }
-    ensures { Skips line.now pos result }
+/// What is behind the one space at the front of a line.
+#[tactic(auto, using(crate::proofs::Wording::spaces))]
+fn skip_space(line: &[u8]) -> Result<&[u8], BadLine>
+    ensures { Skips line.now result }
 {
-    if pos == line.len() {
-        return Err(Failure::Bad(BadLine::MissingWord));
+    match line {
+        [] => Err(BadLine::MissingWord),
+        [b' ', rest @ ..] => Ok(rest),
+        _ => Err(BadLine::NoSpace),
     }
-    if line[pos] != b' ' {
-        return Err(Failure::Bad(BadLine::NoSpace));
-    }
-    Ok(pos + 1)
 }
 
-/// What the line asks for, or why it is no call.
-pub fn read_line(heap: Global, line: &[u8]) -> Result<Line, Failure>
+/// A template that is to be added: its name, source and tree, and nothing behind them.
+#[tactic(auto, unfolding(crate::specs::Calls::added), using(crate::proofs::Wording::additions))]
+fn read_add(heap: Global, words: &[u8]) -> Result<Line, Failure>
+    ensures { AsksToAdd words.now result }
+{
+    let (name, name_rest) = read_word(heap, words)?;
+    let source_word = skip_space(name_rest)?;
+    let (source, source_rest) = read_word(heap, source_word)?;
+    let tree_word = skip_space(source_rest)?;
+    let (tree, tree_rest) = read_word(heap, tree_word)?;
+    match tree_rest {
+        [] => Ok(Line::Add { name, source, tree }),
+        _ => Err(BadLine::MoreWords.into()),
+    }
+}
+
+/// What the line asks for, nothing if it is empty or a comment; or why it is no call.
+#[tactic(auto, using(crate::proofs::Wording::lines))]
+pub fn read_line(heap: Global, line: &[u8]) -> Result<Option<Line>, Failure>
     ensures { Asks line.now result }
 {
-    if line.is_empty() || line[0] == b'#' {
-        return Ok(Line::Passed);
+    match line {
+        [] => Ok(None),
+        [b'#', ..] => Ok(None),
+        _ => {
+            let words = line.strip_prefix(b"add ").ok_or(BadLine::NoCall)?;
+            Ok(Some(read_add(heap, words)?))
+        }
     }
-    if !line.starts_with(b"add ") {
-        return Err(Failure::Bad(BadLine::NoCall));
-    }
-    let (name, name_end) = read_word(heap, line, 4)?;
-    let source_start = skip_space(line, name_end)?;
-    let (source, source_end) = read_word(heap, line, source_start)?;
-    let tree_start = skip_space(line, source_end)?;
-    let (tree, tree_end) = read_word(heap, line, tree_start)?;
-    if tree_end < line.len() {
-        return Err(Failure::Bad(BadLine::MoreWords));
-    }
-    Ok(Line::Add(name, source, tree))
 }
 
 /// The bytes without the last one, if it is the given one.
 fn without_last(bytes: &[u8], last: u8) -> &[u8]
     ensures { result.now ≡ without_last bytes.now last }
 {
-    let len = bytes.len();
-    if len > 0 && bytes[len - 1] == last {
-        &bytes[0..len - 1]
-    } else {
-        bytes
+    match bytes {
+        [rest @ .., byte] if *byte == last => rest,
+        _ => bytes,
     }
 }
 

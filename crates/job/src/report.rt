@@ -1,21 +1,23 @@
 //! The report of a job: what each line asked for, and what came of it.
 
-ghost use Rattle.std.specs.Prelude.{◌≡◌};
+ghost use Rattle.std.specs.Prelude.{◌≡◌, Some};
+ghost use Rattle.meaning.specs.Fault.{number};
 ghost use Rattle.meaning.specs.FaultRecords.{fault_of};
 ghost use Rattle.packing.specs.Unpacking.{unpack};
 ghost use Rattle.meaning.specs.Or.{fails, gives};
 ghost use Rattle.job.specs.Calls.{add, call_of};
 ghost use Rattle.job.specs.Lines.{Wrote};
 ghost use Rattle.job.specs.Report.{bad_words, call_words, came_of, came_of_add, cause_words, counts_words, heading, place_words, refused_words, taken_words, verdict_words};
-ghost use Rattle.job.specs.Reported.{CameTo, counted, no_counts};
+ghost use Rattle.job.specs.Reported.{CameTo, counted, no_counts, one_more};
 
 use crate::line::{Line, read_line};
-use crate::lines::{put, put_quoted};
+pub use crate::lines::Report;
 use crate::outline::outline;
 use crate::word::{BadLine, Failure};
 use checker::template::Template;
 use meaning::fault::{Cause, Fault};
-use std::alloc::{AllocError, Global};
+use std::alloc::AllocError;
+use std::fmt::{self, Display, Formatter};
 
 /// What came of a line.
 #[derive(Clone, Copy)]
@@ -34,7 +36,7 @@ pub struct Counts {
     pub bad: u64,
 }
 
-/// A cause in words.
+/// A cause in words. No `Display` can say them, since the type is of another crate.
 pub fn words_of_cause(cause: Cause) -> &'static [u8]
     ensures { result.now ≡ cause_words cause }
 {
@@ -68,181 +70,170 @@ pub fn words_of_cause(cause: Cause) -> &'static [u8]
     }
 }
 
-/// Why a line is no call, in words.
-pub fn words_of_bad(bad: BadLine) -> &'static [u8]
-    ensures { result.now ≡ bad_words bad }
-{
-    match bad {
-        BadLine::NoCall => b"it begins with no call that is known",
-        BadLine::MissingWord => b"a word is missing",
-        BadLine::NotHex => b"a word is neither hexadecimal digits, -, nor text in double quotes",
-        BadLine::OddDigits => b"a word has an odd number of hexadecimal digits",
-        BadLine::BadEscape => b"a backslash stands before a byte that it cannot stand before",
-        BadLine::OpenQuote => b"a text has no closing quote",
-        BadLine::NoSpace => b"words are separated by one space",
-        BadLine::MoreWords => b"there are more words than the call takes",
+impl Display for BadLine {
+    ghost output = { λ bad. Some (bad_words bad) };
+
+    fn fmt<W: fmt::Write>(&self, f: &mut Formatter<W>) -> fmt::Result {
+        match self {
+            BadLine::NoCall => f.write_str("it begins with no call that is known"),
+            BadLine::MissingWord => f.write_str("a word is missing"),
+            BadLine::NotHex => f.write_str(
+                "a word is neither hexadecimal digits, -, nor text in double quotes",
+            ),
+            BadLine::OddDigits => f.write_str("a word has an odd number of hexadecimal digits"),
+            BadLine::BadEscape => f.write_str(
+                "a backslash stands before a byte that it cannot stand before",
+            ),
+            BadLine::OpenQuote => f.write_str("a text has no closing quote"),
+            BadLine::NoSpace => f.write_str("words are separated by one space"),
+            BadLine::MoreWords => f.write_str("there are more words than the call takes"),
+        }
     }
 }
 
-impl Counts {
-    pub fn none() -> Counts
-        ensures { result ≡ no_counts }
-    {
+impl Default for Counts {
+    ghost is_default = { λ counts. counts ≡ no_counts };
+
+    fn default() -> Counts {
         Counts {
             taken: 0,
             refused: 0,
             bad: 0,
         }
     }
+}
 
+impl Counts {
     /// One line more.
-    pub fn with(self, came: Came) -> Counts
+    pub fn with(mut self, came: Came) -> Counts
         ensures { result ≡ counted self came }
     {
-        let mut counts = self;
         match came {
             Came::Passed => {}
-            Came::Taken => counts.taken = counts.taken.saturating_add(1),
-            Came::Refused => counts.refused = counts.refused.saturating_add(1),
-            Came::NoCall => counts.bad = counts.bad.saturating_add(1),
+            Came::Taken => count(&mut self.taken),
+            Came::Refused => count(&mut self.refused),
+            Came::NoCall => count(&mut self.bad),
         }
-        counts
+        self
     }
 }
 
-/// Which line is reported.
-fn put_heading(heap: Global, number: u64, out: &mut Vec<u8>) -> Result<(), AllocError>
-    ensures { Wrote (heading number) result out.old.items out.new.items }
+/// One more, up to what 64 bits hold.
+fn count(counter: &mut u64)
+    ensures { counter.new ≡ one_more counter.old }
 {
-    let text = format!(in heap; "line {number}: ")?;
-    put(out, text.as_bytes())
+    *counter = counter.saturating_add(1);
 }
 
-/// Where in a tree bytes are refused.
-fn put_place(heap: Global, cause: u8, offset: usize, out: &mut Vec<u8>) -> Result<(), AllocError>
-    ensures { Wrote (place_words cause offset) result out.old.items out.new.items }
-{
-    if cause == 1 {
-        return put(out, b"\n");
+impl Report {
+    /// Which line is reported.
+    fn put_heading(&mut self, number: u64) -> Result<(), AllocError>
+        ensures { Wrote (heading number) result self.old self.new }
+    {
+        write!(self, "line {number}: ")
     }
-    let text = format!(in heap; ", at byte {offset} of the tree\n")?;
-    put(out, text.as_bytes())
-}
 
-/// Why bytes are no template.
-fn put_refusal(heap: Global, fault: Fault, out: &mut Vec<u8>) -> Result<(), AllocError>
-    ensures { Wrote (refused_words (fault_of fault)) result out.old.items out.new.items }
-{
-    let cause = fault.cause.number();
-    let text = format!(in heap; ": refused by cause {cause}, ")?;
-    put(out, text.as_bytes())?;
-    put(out, words_of_cause(fault.cause))?;
-    put_place(heap, cause, fault.detail, out)
-}
-
-/// That bytes are a template.
-fn put_taken(heap: Global, source: &[u8], tree: &[u8], out: &mut Vec<u8>) -> Result<(), AllocError>
-    ensures { Wrote (taken_words source.now tree.now) result out.old.items out.new.items }
-{
-    let source_len = source.len();
-    let tree_len = tree.len();
-    let text = format!(in heap;
-        ": taken, source of {source_len} bytes, tree of {tree_len} bytes\n"
-    )?;
-    put(out, text.as_bytes())
-}
-
-/// What is found of a template's bytes: its outline, or why they are refused.
-fn put_verdict<'x>(
-    heap: Global,
-    source: &'x [u8],
-    tree: &'x [u8],
-    out: &mut Vec<u8>,
-) -> Result<Came, AllocError>
-    ensures wrote { Wrote (verdict_words source.now tree.now (unpack source.now tree.now)) result out.old.items out.new.items }
-    ensures came { CameTo (came_of_add (unpack source.now tree.now)) result }
-{
-    let mut template = Template::empty();
-    match template.set(source, tree) {
-        Ok(()) => {
-            put_taken(heap, source, tree, out)?;
-            outline(heap, &template, out)?;
-            Ok(Came::Taken)
-        }
-        Err(fault) => {
-            put_refusal(heap, fault, out)?;
-            Ok(Came::Refused)
+    /// Where in a tree bytes are refused.
+    fn put_place(&mut self, cause: Cause, offset: usize) -> Result<(), AllocError>
+        ensures { Wrote (place_words (number cause) offset) result self.old self.new }
+    {
+        match cause {
+            Cause::BadSource => self.put(b"\n"),
+            _ => writeln!(self, ", at byte {offset} of the tree"),
         }
     }
-}
 
-/// The report on a template that is to be added.
-fn report_add(
-    heap: Global,
-    number: u64,
-    name: &[u8],
-    source: &[u8],
-    tree: &[u8],
-    out: &mut Vec<u8>,
-) -> Result<Came, AllocError>
-    ensures wrote { Wrote (call_words number (gives (add name.now source.now tree.now))) result out.old.items out.new.items }
-    ensures came { CameTo (came_of_add (unpack source.now tree.now)) result }
-{
-    put_heading(heap, number, out)?;
-    put(out, b"add ")?;
-    put_quoted(out, name)?;
-    put_verdict(heap, source, tree, out)
-}
-
-/// The report on a line that is no call.
-fn report_bad(
-    heap: Global,
-    number: u64,
-    bad: BadLine,
-    out: &mut Vec<u8>,
-) -> Result<Came, AllocError>
-    ensures wrote { Wrote (call_words number (fails bad)) result out.old.items out.new.items }
-    ensures came { CameTo Came.NoCall result }
-{
-    put_heading(heap, number, out)?;
-    put(out, b"bad line, ")?;
-    put(out, words_of_bad(bad))?;
-    put(out, b"\n")?;
-    Ok(Came::NoCall)
-}
-
-/// The report on a line of that number.
-pub fn report_line(
-    heap: Global,
-    number: u64,
-    line: &[u8],
-    out: &mut Vec<u8>,
-) -> Result<Came, AllocError>
-    ensures wrote { Wrote (call_words number (call_of line.now)) result out.old.items out.new.items }
-    ensures came { CameTo (came_of (call_of line.now)) result }
-{
-    match read_line(heap, line) {
-        Ok(Line::Passed) => Ok(Came::Passed),
-        Ok(Line::Add(name, source, tree)) => report_add(
-            heap,
-            number,
-            name.as_slice(),
-            source.as_slice(),
-            tree.as_slice(),
-            out,
-        ),
-        Err(Failure::Memory) => Err(AllocError),
-        Err(Failure::Bad(bad)) => report_bad(heap, number, bad, out),
+    /// Why bytes are no template.
+    fn put_refusal(&mut self, fault: Fault) -> Result<(), AllocError>
+        ensures { Wrote (refused_words (fault_of fault)) result self.old self.new }
+    {
+        let number = fault.cause.number();
+        write!(self, ": refused by cause {number}, ")?;
+        self.put(words_of_cause(fault.cause))?;
+        self.put_place(fault.cause, fault.detail)
     }
-}
 
-/// The last line of a report.
-pub fn report_counts(heap: Global, counts: Counts, out: &mut Vec<u8>) -> Result<(), AllocError>
-    ensures { Wrote (counts_words counts) result out.old.items out.new.items }
-{
-    let taken = counts.taken;
-    let refused = counts.refused;
-    let bad = counts.bad;
-    let text = format!(in heap; "{taken} taken, {refused} refused, {bad} bad lines\n")?;
-    put(out, text.as_bytes())
+    /// That bytes are a template.
+    fn put_taken(&mut self, source: &[u8], tree: &[u8]) -> Result<(), AllocError>
+        ensures { Wrote (taken_words source.now tree.now) result self.old self.new }
+    {
+        let source_len = source.len();
+        let tree_len = tree.len();
+        writeln!(
+            self,
+            ": taken, source of {source_len} bytes, tree of {tree_len} bytes"
+        )
+    }
+
+    /// What is found of a template's bytes: its outline, or why they are refused.
+    fn put_verdict(&mut self, source: &[u8], tree: &[u8]) -> Result<Came, AllocError>
+        ensures wrote { Wrote (verdict_words source.now tree.now (unpack source.now tree.now)) result self.old self.new }
+        ensures came { CameTo (came_of_add (unpack source.now tree.now)) result }
+    {
+        match Template::new(source, tree) {
+            Ok(template) => {
+                self.put_taken(source, tree)?;
+                outline(&template, self)?;
+                Ok(Came::Taken)
+            }
+            Err(fault) => {
+                self.put_refusal(fault)?;
+                Ok(Came::Refused)
+            }
+        }
+    }
+
+    /// What is asked of a template that is to be added, and what came of it.
+    fn put_add(
+        &mut self,
+        number: u64,
+        name: &[u8],
+        source: &[u8],
+        tree: &[u8],
+    ) -> Result<Came, AllocError>
+        ensures wrote { Wrote (call_words number (gives (add name.now source.now tree.now))) result self.old self.new }
+        ensures came { CameTo (came_of_add (unpack source.now tree.now)) result }
+    {
+        self.put_heading(number)?;
+        self.put(b"add ")?;
+        self.put_quoted(name)?;
+        self.put_verdict(source, tree)
+    }
+
+    /// That a line is no call, and why.
+    fn put_bad(&mut self, number: u64, bad: BadLine) -> Result<Came, AllocError>
+        ensures wrote { Wrote (call_words number (fails bad)) result self.old self.new }
+        ensures came { CameTo Came.NoCall result }
+    {
+        self.put_heading(number)?;
+        writeln!(self, "bad line, {bad}")?;
+        Ok(Came::NoCall)
+    }
+
+    /// What the line of that number asks for, and what came of it.
+    pub fn put_line(&mut self, number: u64, line: &[u8]) -> Result<Came, AllocError>
+        ensures wrote { Wrote (call_words number (call_of line.now)) result self.old self.new }
+        ensures came { CameTo (came_of (call_of line.now)) result }
+    {
+        match read_line(self.heap(), line) {
+            Ok(None) => Ok(Came::Passed),
+            Ok(Some(Line::Add { name, source, tree })) => {
+                self.put_add(number, name.as_slice(), source.as_slice(), tree.as_slice())
+            }
+            Err(Failure::Memory) => Err(AllocError),
+            Err(Failure::Bad(bad)) => self.put_bad(number, bad),
+        }
+    }
+
+    /// The last line of a report.
+    pub fn put_counts(&mut self, counts: Counts) -> Result<(), AllocError>
+        ensures { Wrote (counts_words counts) result self.old self.new }
+    {
+        let Counts {
+            taken,
+            refused,
+            bad,
+        } = counts;
+        writeln!(self, "{taken} taken, {refused} refused, {bad} bad lines")
+    }
 }

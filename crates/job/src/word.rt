@@ -1,9 +1,9 @@
 //! The words of a job's line: bytes as hexadecimal digits, `-` for none, or text in double quotes.
 
-ghost use Rattle.std.specs.Prelude.{◌≡◌, ◌≤◌, length, vec_items};
-ghost use Rattle.job.specs.declared.word.Failure.TheVariants.{Memory};
-ghost use Rattle.job.specs.Words.{Told, digit, hex, unescaped, unquote, word};
-ghost use Rattle.job.specs.Options.{SmallOption, same_option};
+ghost use Rattle.std.specs.Prelude.{◌<◌, ◌≡◌, IfSome, vec_items};
+ghost use Rattle.job.specs.declared.word.Failure.TheVariants.{Bad, Memory};
+ghost use Rattle.job.specs.Words.{NextDigit, NextQuoted, Told, digit, hex, unescaped, unquote, word};
+ghost use Rattle.job.specs.Options.{same_option};
 
 use std::alloc::{AllocError, AllocFailed, Global};
 
@@ -49,10 +49,18 @@ impl<T: Drop> From<AllocFailed<T>> for Failure {
     }
 }
 
+impl From<BadLine> for Failure {
+    ghost from_gives = { λ bad r. r ≡ Bad bad };
+
+    fn from(bad: BadLine) -> Failure {
+        Failure::Bad(bad)
+    }
+}
+
 /// The number of a hexadecimal digit.
 fn digit_of(byte: u8) -> Option<u8>
     ensures number { same_option result ≡ digit byte }
-    ensures small { SmallOption result }
+    ensures small { IfSome result (λ number. number < 16) }
 {
     match byte {
         b'0'..=b'9' => Some(byte - b'0'),
@@ -75,69 +83,82 @@ fn unescape(byte: u8) -> Option<u8>
     }
 }
 
+/// The next digit of a word, and what is behind it; none at a space or the end of the line.
+#[tactic(auto, using(crate::proofs::Wording::digits))]
+fn next_digit(line: &[u8]) -> Result<Option<(u8, &[u8])>, BadLine>
+    ensures { NextDigit line.now result }
+{
+    match line {
+        [] => Ok(None),
+        [b' ', ..] => Ok(None),
+        [byte, rest @ ..] => {
+            let digit = digit_of(*byte).ok_or(BadLine::NotHex)?;
+            Ok(Some((digit, rest)))
+        }
+    }
+}
+
+/// The next byte of a text in double quotes, none at its closing quote; and what is behind it.
+#[tactic(auto, using(crate::proofs::Wording::texts))]
+fn next_quoted(line: &[u8]) -> Result<(Option<u8>, &[u8]), BadLine>
+    ensures { NextQuoted line.now result }
+{
+    let [byte, rest @ ..] = line else {
+        return Err(BadLine::OpenQuote);
+    };
+    match *byte {
+        b'"' => Ok((None, rest)),
+        b'\\' => {
+            let [escaped, behind @ ..] = rest else {
+                return Err(BadLine::OpenQuote);
+            };
+            let byte = unescape(*escaped).ok_or(BadLine::BadEscape)?;
+            Ok((Some(byte), behind))
+        }
+        byte => Ok((Some(byte), rest)),
+    }
+}
+
 /// Hexadecimal digits, two for each byte, up to a space or the end of the line.
-fn read_hex(heap: Global, line: &[u8], pos: usize) -> Result<(Vec<u8>, usize), Failure>
-    requires { pos ≤ length line.now }
-    ensures { Told vec_items line.now pos hex result }
+fn read_hex(heap: Global, line: &[u8]) -> Result<(Vec<u8>, &[u8]), Failure>
+    ensures { Told vec_items line.now hex result }
 {
     let mut bytes = Vec::new(heap);
-    let mut at = pos;
-    while at < line.len() && line[at] != b' ' {
-        let Some(high) = digit_of(line[at]) else {
-            return Err(Failure::Bad(BadLine::NotHex));
-        };
-        if at + 1 == line.len() || line[at + 1] == b' ' {
-            return Err(Failure::Bad(BadLine::OddDigits));
-        }
-        let Some(low) = digit_of(line[at + 1]) else {
-            return Err(Failure::Bad(BadLine::NotHex));
-        };
+    let mut rest = line;
+    while let Some((high, behind)) = next_digit(rest)? {
+        let (low, after) = next_digit(behind)?.ok_or(BadLine::OddDigits)?;
         bytes.push(high * 16 + low)?;
-        at += 2;
+        rest = after;
     }
-    Ok((bytes, at))
+    Ok((bytes, rest))
 }
 
 /// Text up to its closing quote, from behind the opening one on.
-fn read_quoted(heap: Global, line: &[u8], pos: usize) -> Result<(Vec<u8>, usize), Failure>
-    requires { pos ≤ length line.now }
-    ensures { Told vec_items line.now pos unquote result }
+fn read_quoted(heap: Global, line: &[u8]) -> Result<(Vec<u8>, &[u8]), Failure>
+    ensures { Told vec_items line.now unquote result }
 {
     let mut bytes = Vec::new(heap);
-    let mut at = pos;
-    while at < line.len() && line[at] != b'"' {
-        if line[at] != b'\\' {
-            bytes.push(line[at])?;
-            at += 1;
-        } else {
-            if at + 1 == line.len() {
-                return Err(Failure::Bad(BadLine::OpenQuote));
-            }
-            let Some(byte) = unescape(line[at + 1]) else {
-                return Err(Failure::Bad(BadLine::BadEscape));
-            };
-            bytes.push(byte)?;
-            at += 2;
-        }
+    let mut rest = line;
+    loop {
+        let (byte, behind) = next_quoted(rest)?;
+        let Some(byte) = byte else {
+            return Ok((bytes, behind));
+        };
+        bytes.push(byte)?;
+        rest = behind;
     }
-    if at == line.len() {
-        return Err(Failure::Bad(BadLine::OpenQuote));
-    }
-    Ok((bytes, at + 1))
 }
 
-/// The word at a position, and the position behind it.
-pub(crate) fn read_word(heap: Global, line: &[u8], pos: usize) -> Result<(Vec<u8>, usize), Failure>
-    requires { pos ≤ length line.now }
-    ensures { Told vec_items line.now pos word result }
+/// The word at the front of a line, and what is behind it.
+#[tactic(auto, using(crate::proofs::Wording::words))]
+pub(crate) fn read_word(heap: Global, line: &[u8]) -> Result<(Vec<u8>, &[u8]), Failure>
+    ensures { Told vec_items line.now word result }
 {
-    if pos == line.len() {
-        return Err(Failure::Bad(BadLine::MissingWord));
-    }
-    match line[pos] {
-        b' ' => Err(Failure::Bad(BadLine::MissingWord)),
-        b'-' => Ok((Vec::new(heap), pos + 1)),
-        b'"' => read_quoted(heap, line, pos + 1),
-        _ => read_hex(heap, line, pos),
+    match line {
+        [] => Err(BadLine::MissingWord.into()),
+        [b' ', ..] => Err(BadLine::MissingWord.into()),
+        [b'-', rest @ ..] => Ok((Vec::new(heap), rest)),
+        [b'"', rest @ ..] => read_quoted(heap, rest),
+        _ => read_hex(heap, line),
     }
 }

@@ -1,2 +1,1 @@
-mod Spans
 mod Walks

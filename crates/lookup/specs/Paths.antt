@@ -1,5 +1,5 @@
 -- What the walk in code answers, by the walk as it is defined.
-use Rattle.std.specs.Prelude.{◌≡◌, ℕ, ◌+◌, [], ◌∷◌, Some, None, Ok, Err, Option, Result}
+use Rattle.std.specs.Prelude.{◌≡◌, ℕ, Some, None, Ok, Err, Option, Result}
 use Rattle.meaning.specs.Fault.{fault_at}
 use Rattle.meaning.specs.FaultRecords.{fault_of}
 use Rattle.meaning.specs.Hosts.{Reason}
@@ -10,8 +10,6 @@ use Rattle.meaning.specs.declared.fault.Fault as code
 use Rattle.meaning.specs.declared.tree.AccessOp.{AccessOp}
 use Rattle.meaning.specs.declared.tree.AccessOp.TheVariants.{Direct, Optional}
 use Rattle.meaning.specs.declared.tree.Member.{Member}
-use Rattle.reader.specs.Fields.{members_of}
-use Rattle.reader.specs.declared.field.Members.{Members}
 use Rattle.store.specs.Stores.{Known, value}
 use Rattle.store.specs.declared.cell.Ref.{Ref}
 use Rattle.store.specs.declared.memory.Store.{Store}
@@ -33,11 +31,6 @@ Answers s (gives v) (Ok r) = Known s r × (value s r ≡ v)
 Answers s (gives v) (Err reason) = ⊥
 Answers s (fails why) (Ok r) = ⊥
 Answers s (fails why) (Err reason) = reason ≡ why
-
--- the first member and the others
-abbrev pub Splits : Members → Option (Member × Members) → Type 0
-Splits ms (Some r) = (members_of ms ≡ r.0 ∷ members_of r.1) × (r.1.count + 1 ≡ ms.count)
-Splits ms None = members_of ms ≡ []
 
 -- what was found, a miss, or the fault of a direct member
 abbrev pub answered : Option Ref → AccessOp → code.Fault → Result (Option Ref) code.Fault

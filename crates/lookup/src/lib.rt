@@ -2,6 +2,4 @@
 
 #![tactic(auto)]
 
-pub mod members;
-pub mod source;
 pub mod walking;

@@ -1,5 +1,6 @@
 //! The walk: an index on a list and a key on a map give the part. If it is absent, an optional member is a miss,
-//! which ends the walk, and a direct one is a fault; every other pairing is a fault too.
+//! which ends the walk, and a direct one is a fault; every other pairing is a fault too. Store, source and path belong
+//! to three owners, and stand beside one another.
 
 ghost use Rattle.std.specs.Prelude.{◌≡◌, map as each};
 ghost use Rattle.meaning.specs.Scopes.{ask};
@@ -9,11 +10,10 @@ ghost use Rattle.reader.specs.Fields.{members_of};
 ghost use Rattle.store.specs.Stores.{Known, value};
 ghost use Rattle.lookup.specs.Paths.{Answers, Tells, answered};
 
-use crate::members::split_first;
-use crate::source::span_text;
 use meaning::fault::{Cause, Fault};
 use meaning::tree::{Access, AccessOp, Member};
 use reader::field::Members;
+use reader::text::text_under;
 use store::cell::Ref;
 use store::kinds::Kind;
 use store::memory::Store;
@@ -29,13 +29,11 @@ pub fn lookup_path(
     ensures { Tells store.now (walk (ask source.now) (value store.now start) (members_of path.entry)) result }
 {
     let mut here = start;
-    let mut left = path;
-    while let Some((member, others)) = split_first(left) {
+    for member in path {
         match lookup(store, source, here, member)? {
             Some(part) => here = part,
             None => return Ok(None),
         }
-        left = others;
     }
     Ok(Some(here))
 }
@@ -47,7 +45,7 @@ pub fn lookup(store: &Store, source: &[u8], from: Ref, member: Member) -> Result
 {
     match member.access {
         Access::Index(number, _) => by_index(store, from, number as usize, member),
-        Access::Key(span) => by_key(store, from, span_text(source, span), member),
+        Access::Key(span) => by_key(store, from, text_under(source, span), member),
     }
 }
 
@@ -81,12 +79,9 @@ fn by_key(store: &Store, from: Ref, key: &[u8], member: Member) -> Result<Option
 fn or_absent(part: Option<Ref>, op: AccessOp, absent: Fault) -> Result<Option<Ref>, Fault>
     ensures { result ≡ answered part op absent }
 {
-    match part {
-        Some(r) => Ok(Some(r)),
-        None => match op {
-            AccessOp::Optional => Ok(None),
-            AccessOp::Direct => Err(absent),
-        },
+    match (part, op) {
+        (None, AccessOp::Direct) => Err(absent),
+        _ => Ok(part),
     }
 }
 
@@ -95,6 +90,7 @@ pub fn answer_path(store: &Store, source: &[u8], start: Ref, path: Members) -> R
     requires { Known store.now start }
     ensures { Answers store.now (walk_of (value store.now start) (each (ask source.now) (members_of path.entry))) result }
 {
+    // both outcomes turn into others, so that `?` would pass on neither
     match lookup_path(store, source, start, path) {
         Ok(found) => Ok(found.unwrap_or(Ref::None)),
         Err(fault) => Err(fault.cause.number() as u16),

@@ -45,7 +45,7 @@ pub enum Cause {
 }
 
 impl Cause {
-    /// The number by which the cause is reported.
+    /// The number by which the cause is reported. As a conversion it would not say which number it is.
     pub fn number(self) -> u8
         ensures { result ≡ number self }
     {

@@ -3,28 +3,28 @@
 #![tactic(auto)]
 
 use job::line::content;
-use job::report::{Counts, report_counts, report_line};
+use job::report::{Counts, Report};
 use std::io::{BufRead, BufReader, Write};
 
 fn run(rt: &HostRuntime) -> anyhow::Result<()> {
     let heap = rt.alloc();
     let mut input = BufReader::new(heap, rt.stdin())?;
     let mut output = rt.stdout();
-    let mut counts = Counts::none();
+    let mut counts = Counts::default();
     let mut line = Vec::new(heap);
-    let mut out = Vec::new(heap);
+    let mut report = Report::new(heap);
     for number in 1..u64::MAX {
         line.clear();
         if input.read_until(b'\n', &mut line)? == 0 {
             break;
         }
-        let came = report_line(heap, number, content(line.as_slice()), &mut out)?;
+        let came = report.put_line(number, content(line.as_slice()))?;
         counts = counts.with(came);
-        output.write_all(out.as_slice())?;
-        out.clear();
+        output.write_all(report.as_bytes())?;
+        report.clear();
     }
-    report_counts(heap, counts, &mut out)?;
-    output.write_all(out.as_slice())?;
+    report.put_counts(counts)?;
+    output.write_all(report.as_bytes())?;
     Ok(())
 }
 

@@ -3,4 +3,4 @@ pub mod Readings
 pub mod Members
 pub mod AfterBytes
 pub mod Spans
-pub mod Heard
+pub mod Clips

@@ -1,5 +1,5 @@
 -- Members read one after another, and a variable's part of the tree.
-use Rattle.std.proofs.Common.{◌≡◌, ℕ, zero, suc, ◌+◌, ◌-◌, ◌<◌, ◌≤◌, Bool, true, false, ◌⊎◌, List, [], ◌∷◌, ◌++◌, length, take, drop, sym, refl, ap, ◌∙◌, inl, inr, append_assoc, arith, length-append, length-drop, drop-drop, le-leb}
+use Rattle.std.proofs.Common.{◌≡◌, ℕ, zero, suc, ◌+◌, ◌-◌, ◌<◌, ◌≤◌, Bool, true, false, ◌⊎◌, List, [], ◌∷◌, ◌++◌, length, take, drop, Some, None, Option, sym, refl, ap, ◌∙◌, inl, inr, append_assoc, arith, length-append, length-drop, drop-drop, le-leb}
 use borrow.Author.Tests.{lt-leb}
 use Rattle.meaning.specs.declared.tree.Member.{Member}
 use Rattle.meaning.specs.Tree.{Var}
@@ -13,7 +13,9 @@ use Rattle.meaning.specs.declared.fault.Cause.{Cause}
 use Rattle.meaning.specs.declared.fault.Cause.TheVariants.{Malformed}
 use Rattle.packing.specs.Unpacking.{span, access_of, member, more_members, variable, op_of}
 use Rattle.packing.proofs.Readers.{split, finish, never_read, byte_packed, byte_reads, word_packed, word_reads, flag_packed, flag_reads}
-use Rattle.reader.specs.Fields.{ended, decoded, variable_members}
+use Rattle.std.specs.Iterator.{YieldsFirst}
+use Rattle.reader.specs.declared.field.Members.{Members}
+use Rattle.reader.specs.Fields.{ended, decoded, members_of, variable_members}
 
 -- what is made of a reading does not change where it ends
 pub ended_made : {A B : Type 0} (o : Outcome A) (f : A → B) → ended (continue o (λ a. return (f a))) ≡ ended o
@@ -165,14 +167,25 @@ members_there tree n at start end within e =
 
 -- MEMBERS ONE BY ONE
 
-pub decoded_more : (left n : ℕ) (m : Member) (s u : List ℕ) → left ≡ suc n → read m u ≡ member 0 s → decoded left s ≡ m ∷ decoded n u
+pub decoded_more : (left : ℕ) (m : Member) (s u : List ℕ) → 1 ≤ left → read m u ≡ member 0 s → decoded left s ≡ m ∷ decoded (left - 1) u
 unfolding decoded
-decoded_more left n m s u one e = rw (one, sym e)
+decoded_more zero m s u some e = absurd (omega arith)
+decoded_more (suc n) m s u some e =
+    let less : suc n - 1 ≡ n = omega arith in
+    rw (less, ← e)
 
-pub decoded_stops : (left n : ℕ) (s : List ℕ) → left ≡ suc n → refused Malformed 0 ≡ member 0 s → decoded left s ≡ []
+pub decoded_cut : (left : ℕ) (s : List ℕ) → refused Malformed 0 ≡ member 0 s → decoded left s ≡ []
 unfolding decoded
-decoded_stops left n s one e = rw (one, sym e)
+decoded_cut zero s e = refl
+decoded_cut (suc n) s e = rw (← e)
 
 pub decoded_none : (left : ℕ) (s : List ℕ) → left ≡ 0 → decoded left s ≡ []
 unfolding decoded
 decoded_none left s none = rw none
+
+-- a turn of a loop over members
+pub turn : (ms others : Members) (o : Option Member) (m : Member) → o ≡ Some m → YieldsFirst members_of ms o others → members_of ms ≡ m ∷ members_of others
+turn ms others o m is steps = rw is at steps
+
+pub no_turn : (ms others : Members) (o : Option Member) → o ≡ None → YieldsFirst members_of ms o others → members_of ms ≡ []
+no_turn ms others o is steps = (rw is at steps).0

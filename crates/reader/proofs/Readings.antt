@@ -1,5 +1,7 @@
 -- The bytes left at a position, and what is read of them.
-use Rattle.std.proofs.Common.{◌≡◌, ℕ, zero, suc, ◌+◌, ◌-◌, ◌*◌, ◌<◌, ◌≤◌, List, [], ◌∷◌, length, get_or, take, drop, Some, None, Option, sym, refl, add-one, arith, length-drop, drop_of_length-le, get_or-drop, drop-cons, drop-drop, lt-ltb}
+use Rattle.std.proofs.Common.{◌≡◌, ℕ, zero, suc, ◌+◌, ◌-◌, ◌*◌, ◌<◌, ◌≤◌, List, [], ◌∷◌, length, get_or, take, drop, Some, None, Option, sym, refl, add-one, arith, length-drop, drop_of_length-le, get_or-drop, drop-cons, drop-drop, lt-ltb, ◌∙◌}
+use Rattle.std.proofs.lemmas.List.{take_all}
+use Rattle.std.specs.List.{slice_range}
 use Rattle.reader.specs.Fields.{Within, Strictly}
 use Rattle.meaning.specs.Or.{gives, fails}
 use Rattle.packing.specs.Reader.{Outcome, read, refused, byte, bytes, word}
@@ -27,16 +29,24 @@ bytes_missing zero at s h = absurd (omega arith)
 bytes_missing (suc n) at [] h = refl
 bytes_missing (suc n) at (b ∷ s) h = rw (bytes_missing n at s (omega arith))
 
-pub slice_here : (tree : List ℕ) (pos size at : ℕ) → size ≤ length tree - pos → read (take ((pos + size) - pos) (drop pos tree)) (drop (pos + size) tree) ≡ bytes size at (drop pos tree)
-slice_here tree pos size at h =
-    let just : (pos + size) - pos ≡ size = omega arith in
-    let enough : size ≤ length (drop pos tree) = rw (length-drop pos tree) h in
-    rw (just, bytes_there size at (drop pos tree) enough, drop-drop size pos tree)
+-- a part of what is left, which `get` found or did not
+pub part_here : (tree rest part : List ℕ) (pos size at : ℕ) → rest ≡ slice_range tree pos (length tree) → part ≡ slice_range rest 0 size → size ≤ length rest → read part (drop (pos + size) tree) ≡ bytes size at (drop pos tree)
+part_here tree rest part pos size at r p h =
+    let left = length-drop pos tree in
+    let whole : rest ≡ drop pos tree = r ∙ take_all (length tree - pos) (drop pos tree) (omega arith) in
+    let enough : size ≤ length (drop pos tree) = rw (sym whole) h in
+    let just : size - 0 ≡ size = omega arith in
+    rw (p, whole, just, bytes_there size at (drop pos tree) enough, drop-drop size pos tree)
 
-pub no_slice : (tree : List ℕ) (pos size at : ℕ) → length tree - pos < size → refused Malformed at ≡ bytes size at (drop pos tree)
-no_slice tree pos size at h =
-    let short : length (drop pos tree) < size = rw (length-drop pos tree) h in
-    sym (bytes_missing size at (drop pos tree) short)
+pub no_part : (tree : List ℕ) (pos size at left : ℕ) → left + pos ≡ length tree → left < size → refused Malformed at ≡ bytes size at (drop pos tree)
+no_part tree pos size at left counts h =
+    let rest = length-drop pos tree in
+    sym (bytes_missing size at (drop pos tree) (omega arith))
+
+pub nothing_past : (tree : List ℕ) (pos size at : ℕ) → length tree < pos → 0 < size → refused Malformed at ≡ bytes size at (drop pos tree)
+nothing_past tree pos size at past some =
+    let rest = length-drop pos tree in
+    sym (bytes_missing size at (drop pos tree) (omega arith))
 
 -- one step within the tree after another
 pub further : {a b c n : ℕ} → (a ≤ b) × (b ≤ n) → (b ≤ c) × (c ≤ n) → (a ≤ c) × (c ≤ n)
@@ -73,16 +83,37 @@ word_is zero at s small = refl
 word_is (suc k) at [] small = refl
 word_is (suc k) at (b ∷ s) small = rw (lt-ltb b 256 small.0, word_is k at s small.1) (added k b (bytes k at s))
 
--- eight bytes, each by its weight
-pub eight_is : (s : List ℕ) → length s ≡ 8 → get_or s 0 0 + get_or s 1 0 * 256 + get_or s 2 0 * 65536 + get_or s 3 0 * 16777216 + get_or s 4 0 * 4294967296 + get_or s 5 0 * 1099511627776 + get_or s 6 0 * 281474976710656 + get_or s 7 0 * 72057594037927936 ≡ from_little_endian 8 s
+-- bytes, each by its weight
+pub two_are : (s : List ℕ) → get_or s 0 0 + get_or s 1 0 * 256 ≡ from_little_endian 2 s
 unfolding from_little_endian
-eight_is [] long = absurd (omega arith)
-eight_is (a ∷ []) long = absurd (omega arith)
-eight_is (a ∷ b ∷ []) long = absurd (omega arith)
-eight_is (a ∷ b ∷ c ∷ []) long = absurd (omega arith)
-eight_is (a ∷ b ∷ c ∷ d ∷ []) long = absurd (omega arith)
-eight_is (a ∷ b ∷ c ∷ d ∷ e ∷ []) long = absurd (omega arith)
-eight_is (a ∷ b ∷ c ∷ d ∷ e ∷ f ∷ []) long = absurd (omega arith)
-eight_is (a ∷ b ∷ c ∷ d ∷ e ∷ f ∷ g ∷ []) long = absurd (omega arith)
-eight_is (a ∷ b ∷ c ∷ d ∷ e ∷ f ∷ g ∷ h ∷ []) long = omega arith
-eight_is (a ∷ b ∷ c ∷ d ∷ e ∷ f ∷ g ∷ h ∷ i ∷ s) long = absurd (omega arith)
+two_are [] = refl
+two_are (a ∷ []) = omega arith
+two_are (a ∷ b ∷ s) = omega arith
+
+pub four_are : (s : List ℕ) → get_or s 0 0 + get_or s 1 0 * 256 + get_or s 2 0 * 65536 + get_or s 3 0 * 16777216 ≡ from_little_endian 4 s
+unfolding from_little_endian
+four_are [] = refl
+four_are (a ∷ []) = omega arith
+four_are (a ∷ b ∷ []) = omega arith
+four_are (a ∷ b ∷ c ∷ []) = omega arith
+four_are (a ∷ b ∷ c ∷ d ∷ s) = omega arith
+
+pub eight_are : (s : List ℕ) → get_or s 0 0 + get_or s 1 0 * 256 + get_or s 2 0 * 65536 + get_or s 3 0 * 16777216 + get_or s 4 0 * 4294967296 + get_or s 5 0 * 1099511627776 + get_or s 6 0 * 281474976710656 + get_or s 7 0 * 72057594037927936 ≡ from_little_endian 8 s
+unfolding from_little_endian
+eight_are [] = refl
+eight_are (a ∷ []) = omega arith
+eight_are (a ∷ b ∷ []) = omega arith
+eight_are (a ∷ b ∷ c ∷ []) = omega arith
+eight_are (a ∷ b ∷ c ∷ d ∷ []) = omega arith
+eight_are (a ∷ b ∷ c ∷ d ∷ e ∷ []) = omega arith
+eight_are (a ∷ b ∷ c ∷ d ∷ e ∷ f ∷ []) = omega arith
+eight_are (a ∷ b ∷ c ∷ d ∷ e ∷ f ∷ g ∷ []) = omega arith
+eight_are (a ∷ b ∷ c ∷ d ∷ e ∷ f ∷ g ∷ h ∷ s) = omega arith
+
+-- a number that is read as its bytes
+module _ (tree : List ℕ) (pos k : ℕ) (each : (i : ℕ) → get_or tree i 0 < 256) where
+  pub word_here : (n : ℕ) (bs : List ℕ) (next at : ℕ) → n ≡ from_little_endian k bs → read bs (drop next tree) ≡ bytes k at (drop pos tree) → read n (drop next tree) ≡ word k at (drop pos tree)
+  word_here n bs next at is e = rw (word_is k at (drop pos tree) (small_drop pos tree each), sym e, is)
+
+  pub no_word : (at : ℕ) → refused Malformed at ≡ bytes k at (drop pos tree) → refused Malformed at ≡ word k at (drop pos tree)
+  no_word at e = rw (word_is k at (drop pos tree) (small_drop pos tree each), sym e)

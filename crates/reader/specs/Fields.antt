@@ -30,11 +30,6 @@ abbrev pub Strictly : {X : Type 0} → List ℕ → ℕ → Option (X × ℕ) �
 Strictly tree pos (Some r) = (pos < r.1) × (r.1 ≤ length tree)
 Strictly tree pos None = Unit {0}
 
--- a slice of just so many bytes
-abbrev pub Long : ℕ → Option (Bor (List ℕ) × ℕ) → Type 0
-Long size (Some r) = length r.0.now ≡ size
-Long size None = Unit {0}
-
 abbrev pub as_it_is : {A : Type 0} → A → A
 as_it_is a = a
 

@@ -1,7 +1,6 @@
 -- What the commands that the code hands out stand for.
-use Rattle.std.specs.Prelude.{◌≡◌, ℕ, true, false, length, Some, None, Option}
+use Rattle.std.specs.Prelude.{true, false}
 use Rattle.meaning.specs.Value.{Value, none, boolean, integer, float, string}
-use Rattle.meaning.specs.Bytes.{from_little_endian, twos_complement}
 use Rattle.reader.specs.declared.command.BaseCommand.{BaseCommand}
 use Rattle.reader.specs.declared.command.BaseCommand.TheVariants as base
 use Rattle.reader.specs.declared.command.ExprCommand.{ExprCommand}
@@ -48,19 +47,6 @@ abbrev pub plain_of : PlainValue → Value
 plain_of plain.Nothing = none
 plain_of plain.False = boolean false
 plain_of plain.True = boolean true
-plain_of (plain.Integer b) = integer (twos_complement 64 (from_little_endian 8 b.now))
-plain_of (plain.Float b) = float (from_little_endian 8 b.now)
+plain_of (plain.Integer n) = integer n
+plain_of (plain.Float bits) = float bits
 plain_of (plain.String b) = string b.now
-
--- the numbers have eight bytes
-abbrev pub EightBytes : PlainValue → Type 0
-EightBytes plain.Nothing = Unit {0}
-EightBytes plain.False = Unit {0}
-EightBytes plain.True = Unit {0}
-EightBytes (plain.Integer b) = length b.now ≡ 8
-EightBytes (plain.Float b) = length b.now ≡ 8
-EightBytes (plain.String b) = Unit {0}
-
-abbrev pub Eight : Option (PlainValue × ℕ) → Type 0
-Eight (Some r) = EightBytes r.0
-Eight None = Unit {0}

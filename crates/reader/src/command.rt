@@ -57,6 +57,7 @@ pub enum ScopeCommand<'a> {
 }
 
 /// Name, whole and a count of at most `most`, as calls and filters have them.
+#[tactic(auto, using(crate::proofs::Readings::further), unfolding(crate::specs::Heads::callee))]
 fn read_callee(tree: &[u8], pos: usize, most: u8) -> Option<((Span, Span, u8), usize)>
     ensures same { Takes callee_of tree.now pos (callee most) result }
     ensures moves { Within tree.now pos result }
@@ -72,6 +73,7 @@ fn read_callee(tree: &[u8], pos: usize, most: u8) -> Option<((Span, Span, u8), u
 }
 
 /// The rest of an expression's command, after its byte.
+#[tactic(auto, using(crate::proofs::Readings::further, crate::proofs::AfterBytes::base_unknown), unfolding(crate::specs::AfterByte::base_after, crate::specs::Heads::base_fields, packing::specs::Reader::coded))]
 fn base_fields<'a>(tree: &'a [u8], pos: usize, byte: u8) -> Option<(BaseCommand<'a>, usize)>
     ensures same { Takes base_of tree.now pos (base_after byte) result }
     ensures moves { Within tree.now pos result }
@@ -104,6 +106,7 @@ fn base_fields<'a>(tree: &'a [u8], pos: usize, byte: u8) -> Option<(BaseCommand<
 }
 
 /// A map's span, its count, and its first key if there is one.
+#[tactic(auto, using(crate::proofs::Readings::further, crate::proofs::AfterBytes::map_keyed, crate::proofs::AfterBytes::map_cut), unfolding(crate::specs::Heads::map_fields))]
 fn read_map<'a>(tree: &'a [u8], pos: usize) -> Option<(BaseCommand<'a>, usize)>
     ensures same { Takes base_of tree.now pos map_fields result }
     ensures moves { Within tree.now pos result }
@@ -118,6 +121,7 @@ fn read_map<'a>(tree: &'a [u8], pos: usize) -> Option<(BaseCommand<'a>, usize)>
 }
 
 /// The next command, where an expression other than a filter is due.
+#[tactic(auto, using(crate::proofs::Readings::within_ahead, crate::proofs::AfterBytes::base_follows), unfolding(crate::specs::Heads::base_head, packing::specs::Reader::command))]
 pub fn base_command<'a>(tree: &'a [u8], pos: usize) -> Option<(BaseCommand<'a>, usize)>
     ensures same { Takes base_of tree.now pos base_head result }
     ensures moves { Strictly tree.now pos result }
@@ -127,6 +131,7 @@ pub fn base_command<'a>(tree: &'a [u8], pos: usize) -> Option<(BaseCommand<'a>, 
 }
 
 /// The next command, where an expression is due.
+#[tactic(auto, using(crate::proofs::Readings::ahead_further, crate::proofs::AfterBytes::expr_follows, crate::proofs::AfterBytes::filter_follows), unfolding(crate::specs::Heads::expr_head, packing::specs::Reader::command))]
 pub fn expr_command<'a>(tree: &'a [u8], pos: usize) -> Option<(ExprCommand<'a>, usize)>
     ensures same { Takes expr_of tree.now pos expr_head result }
     ensures moves { Strictly tree.now pos result }
@@ -141,6 +146,7 @@ pub fn expr_command<'a>(tree: &'a [u8], pos: usize) -> Option<(ExprCommand<'a>, 
 }
 
 /// The rest of a statement's command, after its byte.
+#[tactic(auto, using(crate::proofs::Readings::further, crate::proofs::AfterBytes::stmt_unknown), unfolding(crate::specs::AfterByte::stmt_after, crate::specs::Heads::stmt_fields, packing::specs::Reader::coded))]
 fn stmt_fields<'a>(tree: &'a [u8], pos: usize, byte: u8) -> Option<(StmtCommand<'a>, usize)>
     requires { pos ≤ length tree.now }
     ensures same { Takes stmt_of tree.now pos (stmt_after byte) result }
@@ -187,6 +193,7 @@ fn stmt_fields<'a>(tree: &'a [u8], pos: usize, byte: u8) -> Option<(StmtCommand<
 }
 
 /// The next command, where a statement or the end of its scope is due.
+#[tactic(auto, using(crate::proofs::Readings::ahead_further, crate::proofs::AfterBytes::stmt_follows, crate::proofs::AfterBytes::end_follows), unfolding(crate::specs::Heads::scope_head, packing::specs::Reader::command))]
 pub fn scope_command<'a>(tree: &'a [u8], pos: usize) -> Option<(ScopeCommand<'a>, usize)>
     ensures same { Takes scope_of tree.now pos scope_head result }
     ensures moves { Strictly tree.now pos result }

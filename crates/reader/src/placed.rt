@@ -1,18 +1,19 @@
 //! The spans of a command: neither reversed, nor past the source, nor inside a character.
 
 ghost use Rattle.std.specs.Prelude.{◌≡◌, drop};
+ghost use Rattle.reader.specs.Forms.{Form, base_form, expr_form, scope_form};
 ghost use Rattle.packing.specs.Limits.{inside};
 ghost use Rattle.meaning.specs.Spans.{access_span};
 ghost use Rattle.packing.specs.Unpacking.{all_inside, member_spans};
 ghost use Rattle.reader.specs.Meanings.{base_of, expr_of, scope_of, stmt_of};
-ghost use Rattle.reader.specs.Fields.{members_of};
+ghost use Rattle.reader.specs.Fields.{Strictly, Takes, members_of};
 ghost use Rattle.reader.specs.Verdicts.{Ahead, heard, well_placed};
-ghost use Rattle.reader.specs.Heads.{base_head, base_spans, expr_head, expr_spans, scope_head, scope_spans, stmt_spans};
+ghost use Rattle.reader.specs.Heads.{stmt_spans};
 
 use crate::command::{
     BaseCommand, ExprCommand, ScopeCommand, StmtCommand, base_command, expr_command, scope_command,
 };
-use crate::field::{Members, read_member};
+use crate::field::Members;
 use crate::refusal::Refusal;
 use crate::text::is_between_characters;
 use meaning::tree::{Access, Span};
@@ -41,43 +42,15 @@ fn access_span(access: Access) -> Span
 fn members_placed(source: &[u8], members: Members) -> bool
     ensures { result ≡ all_inside source.now (member_spans (members_of members.entry)) }
 {
-    let mut at = 0;
-    for _member in 0..members.count {
-        let Some((member, next)) = read_member(members.bytes, at) else {
-            return true;
-        };
+    for member in members {
         if !is_inside(source, access_span(member.access)) {
             return false;
         }
         if !is_inside(source, member.span) {
             return false;
         }
-        at = next;
     }
     true
-}
-
-fn base_placed(source: &[u8], command: BaseCommand) -> bool
-    ensures { result ≡ all_inside source.now (base_spans (base_of command.entry)) }
-{
-    match command {
-        BaseCommand::Variable(members) => members_placed(source, members),
-        BaseCommand::Literal(span) => is_inside(source, span),
-        BaseCommand::List(span, _) => is_inside(source, span),
-        BaseCommand::EmptyMap(span) => is_inside(source, span),
-        BaseCommand::Map(span, key, _) => is_inside(source, key.span) && is_inside(source, span),
-        BaseCommand::Paren(span) => is_inside(source, span),
-        BaseCommand::Call(name, whole, _) => is_inside(source, name) && is_inside(source, whole),
-    }
-}
-
-fn expr_placed(source: &[u8], command: ExprCommand) -> bool
-    ensures { result ≡ all_inside source.now (expr_spans (expr_of command.entry)) }
-{
-    match command {
-        ExprCommand::Base(base) => base_placed(source, base),
-        ExprCommand::Filter(name, whole, _) => is_inside(source, name) && is_inside(source, whole),
-    }
 }
 
 fn stmt_placed(source: &[u8], command: StmtCommand) -> bool
@@ -86,10 +59,8 @@ fn stmt_placed(source: &[u8], command: StmtCommand) -> bool
     match command {
         StmtCommand::Raw(span) => is_inside(source, span),
         StmtCommand::Inline => true,
-        StmtCommand::Include(name) => is_inside(source, name.span),
-        StmtCommand::IncludeWith(name) => is_inside(source, name.span),
-        StmtCommand::If(_) => true,
-        StmtCommand::IfElse(_) => true,
+        StmtCommand::Include(name) | StmtCommand::IncludeWith(name) => is_inside(source, name.span),
+        StmtCommand::If(_) | StmtCommand::IfElse(_) => true,
         StmtCommand::ForItem(span) => is_inside(source, span),
         StmtCommand::ForPair(key, value, both) => {
             is_inside(source, key) && is_inside(source, value) && is_inside(source, both)
@@ -98,66 +69,92 @@ fn stmt_placed(source: &[u8], command: StmtCommand) -> bool
     }
 }
 
-fn scope_placed(source: &[u8], command: ScopeCommand) -> bool
-    ensures { result ≡ all_inside source.now (scope_spans (scope_of command.entry)) }
-{
-    match command {
-        ScopeCommand::Stmt(stmt) => stmt_placed(source, stmt),
-        ScopeCommand::End => true,
+/// A kind of command, as it stands in a tree.
+pub trait Command<'a>: Copy {
+    /// How such a command is read, and which spans it has.
+    ghost form: { Form };
+
+    ghost head: { Self → form.Head };
+
+    fn read(tree: &'a [u8], pos: usize) -> Option<(Self, usize)>
+        ensures same { Takes head tree.now pos form.reads result }
+        ensures moves { Strictly tree.now pos result };
+
+    /// Whether its spans are good ones in the source.
+    fn is_placed(self, source: &[u8]) -> bool
+        ensures { result ≡ all_inside source.now (form.spans (head self)) };
+}
+
+impl<'a> Command<'a> for BaseCommand<'a> {
+    ghost form = { base_form };
+
+    ghost head = { base_of };
+
+    fn read(tree: &'a [u8], pos: usize) -> Option<(BaseCommand<'a>, usize)> {
+        base_command(tree, pos)
+    }
+
+    fn is_placed(self, source: &[u8]) -> bool {
+        match self {
+            BaseCommand::Variable(members) => members_placed(source, members),
+            BaseCommand::Literal(span) | BaseCommand::EmptyMap(span) | BaseCommand::Paren(span) => {
+                is_inside(source, span)
+            }
+            BaseCommand::List(span, _) => is_inside(source, span),
+            BaseCommand::Map(span, key, _) => is_inside(source, key.span)
+                && is_inside(source, span),
+            BaseCommand::Call(name, whole, _) => is_inside(source, name)
+                && is_inside(source, whole),
+        }
     }
 }
 
-/// The next command, where an expression other than a filter is due, with its spans tested.
-pub fn next_base<'a>(
-    source: &[u8],
-    tree: &'a [u8],
-    pos: usize,
-) -> Result<(BaseCommand<'a>, usize), Refusal>
-    ensures same { heard base_of tree.now result ≡ well_placed source.now base_spans base_head (drop pos tree.now) }
-    ensures moves { Ahead tree.now pos result }
-{
-    let Some((command, next)) = base_command(tree, pos) else {
-        return Err(Refusal::Malformed(pos));
-    };
-    if base_placed(source, command) {
-        Ok((command, next))
-    } else {
-        Err(Refusal::Misplaced(pos))
+impl<'a> Command<'a> for ExprCommand<'a> {
+    ghost form = { expr_form };
+
+    ghost head = { expr_of };
+
+    fn read(tree: &'a [u8], pos: usize) -> Option<(ExprCommand<'a>, usize)> {
+        expr_command(tree, pos)
+    }
+
+    fn is_placed(self, source: &[u8]) -> bool {
+        match self {
+            ExprCommand::Base(base) => base.is_placed(source),
+            ExprCommand::Filter(name, whole, _) => is_inside(source, name)
+                && is_inside(source, whole),
+        }
     }
 }
 
-/// The next command, where an expression is due, with its spans tested.
-pub fn next_expr<'a>(
-    source: &[u8],
-    tree: &'a [u8],
-    pos: usize,
-) -> Result<(ExprCommand<'a>, usize), Refusal>
-    ensures same { heard expr_of tree.now result ≡ well_placed source.now expr_spans expr_head (drop pos tree.now) }
-    ensures moves { Ahead tree.now pos result }
-{
-    let Some((command, next)) = expr_command(tree, pos) else {
-        return Err(Refusal::Malformed(pos));
-    };
-    if expr_placed(source, command) {
-        Ok((command, next))
-    } else {
-        Err(Refusal::Misplaced(pos))
+impl<'a> Command<'a> for ScopeCommand<'a> {
+    ghost form = { scope_form };
+
+    ghost head = { scope_of };
+
+    fn read(tree: &'a [u8], pos: usize) -> Option<(ScopeCommand<'a>, usize)> {
+        scope_command(tree, pos)
+    }
+
+    fn is_placed(self, source: &[u8]) -> bool {
+        match self {
+            ScopeCommand::Stmt(stmt) => stmt_placed(source, stmt),
+            ScopeCommand::End => true,
+        }
     }
 }
 
-/// The next command, where a statement or the end of its scope is due, with its spans tested.
-pub fn next_scope<'a>(
+/// The command at a position, with its spans tested.
+pub fn next_command<'a, C: Command<'a>>(
     source: &[u8],
     tree: &'a [u8],
     pos: usize,
-) -> Result<(ScopeCommand<'a>, usize), Refusal>
-    ensures same { heard scope_of tree.now result ≡ well_placed source.now scope_spans scope_head (drop pos tree.now) }
+) -> Result<(C, usize), Refusal>
+    ensures same { heard C.Command.head tree.now result ≡ well_placed source.now C.Command.form.spans C.Command.form.reads (drop pos tree.now) }
     ensures moves { Ahead tree.now pos result }
 {
-    let Some((command, next)) = scope_command(tree, pos) else {
-        return Err(Refusal::Malformed(pos));
-    };
-    if scope_placed(source, command) {
+    let (command, next) = C::read(tree, pos).ok_or(Refusal::Malformed(pos))?;
+    if command.is_placed(source) {
         Ok((command, next))
     } else {
         Err(Refusal::Misplaced(pos))

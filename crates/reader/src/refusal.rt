@@ -19,12 +19,12 @@ pub enum Refusal {
     TooDeep(usize),
 }
 
-impl Refusal {
-    /// The refusal as a fault of the whole call.
-    pub fn as_fault(self) -> Fault
-        ensures { fault_of result ≡ fault (cause_of self) (offset_of self) }
-    {
-        match self {
+/// The refusal as a fault of the whole call.
+impl From<Refusal> for Fault {
+    ghost from_gives = { λ refusal f. fault_of f ≡ fault (cause_of refusal) (offset_of refusal) };
+
+    fn from(refusal: Refusal) -> Fault {
+        match refusal {
             Refusal::BadSource => Fault::of_call(Cause::BadSource, 0),
             Refusal::Malformed(offset) => Fault::of_call(Cause::Malformed, offset),
             Refusal::Misplaced(offset) => Fault::of_call(Cause::Misplaced, offset),

@@ -1,3 +1,2 @@
 mod Feeds
-mod Pages
 mod Turns

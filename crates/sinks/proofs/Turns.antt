@@ -1,5 +1,5 @@
 -- Pieces in order: one turn, and that they come to what one piece comes to.
-use Rattle.std.proofs.Common.{◌≡◌, ℕ, ◌+◌, ◌<◌, List, [], ◌∷◌, ◌++◌, map, length, get_or, drop, Ok, Err, Result, sym, refl, ap, ◌∙◌, subst, arith, Bor}
+use Rattle.std.proofs.Common.{◌≡◌, ℕ, ◌+◌, ◌<◌, List, [], ◌∷◌, ◌++◌, map, length, get_or, drop, Ok, Err, Result, sym, refl, ap, ◌∙◌, subst, Bor}
 use Rattle.std.proofs.lemmas.List.{at_drop_more}
 use Rattle.meaning.specs.Hosts.{Sink, Lawful, Taken, took, stopped, Alike, after}
 use Rattle.sinks.specs.Offered.{Offered, answering, came, as_one, onward, in_order, joined}
@@ -8,15 +8,11 @@ module _ {M : Type 0} (m n : M) where
   goes_on : (t : Taken M) (next : M → Offered M) → came (Ok tt) n ≡ answering m t → onward m t next ≡ next n
   goes_on (took k) next e = ap (λ (o : Offered M). next o.left) (sym e)
   goes_on (stopped level) next e =
-      let f : ◌≡◌ {A = Result (Unit {0}) ℕ} (Ok tt) (Err level) = ap (λ (o : Offered M). o.answer) e in
-      let z : ◌≡◌ {A = ℕ} 0 1 = cc in
-      absurd (omega arith)
+      let f : ◌≡◌ {A = Result (Unit {0}) ℕ} (Ok tt) (Err level) = ap (λ (o : Offered M). o.answer) e in cc
 
   halts : (t : Taken M) (next : M → Offered M) (level : ℕ) → came (Err level) n ≡ answering m t → onward m t next ≡ came (Err level) n
   halts (took k) next level e =
-      let f : ◌≡◌ {A = Result (Unit {0}) ℕ} (Err level) (Ok tt) = ap (λ (o : Offered M). o.answer) e in
-      let z : ◌≡◌ {A = ℕ} 0 1 = cc in
-      absurd (omega arith)
+      let f : ◌≡◌ {A = Result (Unit {0}) ℕ} (Err level) (Ok tt) = ap (λ (o : Offered M). o.answer) e in cc
   halts (stopped l) next level e = sym e
 
 -- a turn at the piece i, which leaves n

@@ -43,11 +43,10 @@ impl Sink for Counter {
     ghost lawful = { counter_is_lawful };
 
     fn offer(&mut self, piece: &[u8]) -> Result<(), u16> {
-        if piece.len() > (u32::MAX - self.bytes) as usize {
-            return Err(0);
-        }
+        let size = u32::try_from(piece.len()).map_err(|_| 0u16)?;
+        let bytes = self.bytes.checked_add(size).ok_or(0u16)?;
         let lines = count_lines(piece);
-        self.bytes += piece.len() as u32;
+        self.bytes = bytes;
         self.lines += lines as u32;
         Ok(())
     }

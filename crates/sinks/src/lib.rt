@@ -3,7 +3,7 @@
 #![tactic(auto)]
 
 pub mod counter;
-pub mod lent;
+mod lent;
 pub mod limit;
 pub mod measure;
 pub mod page;

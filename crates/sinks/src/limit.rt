@@ -1,4 +1,4 @@
-ghost use Rattle.std.specs.Prelude.{◌≡◌, suc, ◌-◌, ◌^◌, min};
+ghost use Rattle.std.specs.Prelude.{◌≡◌, suc, ◌-◌, ◌≤◌, ◌^◌, min};
 ghost use Rattle.sinks.specs.Sinks.{limited};
 ghost use Rattle.sinks.specs.SinkLaws.{limited_is_lawful};
 ghost use Rattle.sinks.specs.States.{up_to};
@@ -14,6 +14,7 @@ pub struct Limit<K, S> {
     limit: usize,
     count: usize,
     beneath: S,
+    ghost within: { count ≤ limit },
 }
 
 pub type LineLimit<S> = Limit<Lines, S>;
@@ -55,13 +56,7 @@ impl<K, S> Limit<K, S> {
     pub fn into_beneath(self) -> S
         ensures { result ≡ self.beneath }
     {
-        let Limit {
-            kind: _,
-            limit: _,
-            count: _,
-            beneath,
-        } = self;
-        beneath
+        self.beneath
     }
 }
 
@@ -81,8 +76,9 @@ impl<K: Measure, S: Sink> Sink for Limit<K, S> {
 
     fn offer(&mut self, piece: &[u8]) -> Result<(), u16> {
         let count = K::count(piece);
-        if count > self.limit.saturating_sub(self.count) {
-            return Err(self.highest());
+        if count > self.limit - self.count {
+            // of the limit itself, and not of it as a borrowed sink
+            return Err((*self).highest());
         }
         self.beneath.offer(piece)?;
         self.count += count;

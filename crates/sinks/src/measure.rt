@@ -46,11 +46,5 @@ pub fn count_lines(piece: &[u8]) -> usize
     ensures counts { result ≡ line_feeds piece.now }
     ensures within { result ≤ length piece.now }
 {
-    let mut n = 0;
-    for b in piece {
-        if *b == b'\n' {
-            n += 1;
-        }
-    }
-    n
+    piece.iter().filter(|b| **b == b'\n').count()
 }

@@ -1,4 +1,4 @@
-ghost use Rattle.std.specs.Prelude.{◌≡◌};
+ghost use Rattle.std.specs.Prelude.{◌≡◌, ◌≤◌, length};
 ghost use Rattle.sinks.specs.Sinks.{page as page_sink};
 ghost use Rattle.sinks.specs.SinkLaws.{page_is_lawful};
 ghost use Rattle.sinks.specs.States.{written};
@@ -6,10 +6,12 @@ ghost use Rattle.sinks.specs.States.{written};
 use crate::sink::Sink;
 
 /// Keeps what it takes, in lent memory.
+// No heap: the memory is lent, so that a slice and a count stand in the place of a `Vec`.
 #[derive(Drop)]
 pub struct Page<'a> {
     memory: &'a mut [u8],
     used: usize,
+    ghost inside: { used ≤ length memory.now },
 }
 
 impl<'a> Page<'a> {
@@ -25,8 +27,7 @@ impl<'a> Page<'a> {
     pub fn bytes(&self) -> &[u8]
         ensures { result.now ≡ (written self.now.memory.now self.now.used).bytes }
     {
-        let end = self.used.min(self.memory.len());
-        &self.memory[0..end]
+        &self.memory[0..self.used]
     }
 }
 
@@ -39,14 +40,12 @@ impl Sink for Page<'_> {
 
     fn offer(&mut self, piece: &[u8]) -> Result<(), u16> {
         let start = self.used;
-        if piece.len() > self.memory.len().saturating_sub(start) {
+        if piece.len() > self.memory.len() - start {
             return Err(0);
         }
-        if piece.len() > 0 {
-            let end = start + piece.len();
-            self.memory[start..end].copy_from_slice(piece);
-            self.used = end;
-        }
+        let end = start + piece.len();
+        self.memory[start..end].copy_from_slice(piece);
+        self.used = end;
         Ok(())
     }
 

@@ -1,5 +1,4 @@
 use crate::counter::Counter;
-use crate::lent::Lent;
 use crate::limit::{ByteLimit, LineLimit, level_above};
 use crate::measure::Measure;
 use crate::page::Page;
@@ -49,7 +48,7 @@ fn lines_over_bytes(rt: HostRuntime) {
 fn bytes_over_lines(rt: HostRuntime) {
     let mut memory = [0; 2];
     let mut page = Page::new(&mut memory);
-    let mut sink = ByteLimit::new(3, LineLimit::new(1, Lent::new(&mut page)));
+    let mut sink = ByteLimit::new(3, LineLimit::new(1, &mut page));
     assert_eq!(rt; sink.highest(), 2);
     assert_eq!(rt; sink.offer(b"\n\n\n\n"), Err(2));
     assert_eq!(rt; sink.offer(b"\n\n"), Err(1));

@@ -2,16 +2,12 @@ ghost use Rattle.std.specs.Prelude.{◌≡◌, ◌-◌, ◌<◌, [], length, dro
 ghost use Rattle.stack.specs.Entries.{entries, room, Kept, Pushed, Popped, Replaced, At, Newest};
 
 use crate::{Full, Stack};
+use std::mem::replace;
 
-fn read<T: Copy>(slots: &[T], i: usize) -> T
-    requires { i < length slots.now }
-    ensures { result ≡ slice_index_or slots.now i result }
-{
-    slots[i]
-}
-
+// `Kept` ties what a call leaves to what it found, which no field of one stack can say: each call that changes a stack names it.
 impl<'m, T: Copy> Stack<'m, T> {
     /// An empty stack with room for as many entries as there are slots.
+    #[tactic(auto, unfolding(crate::specs::Entries::newest_first))]
     pub fn new(slots: &'m mut [T]) -> Stack<'m, T>
         ensures empty { entries result ≡ [] }
         ensures room { room result ≡ length slots.old }
@@ -20,6 +16,7 @@ impl<'m, T: Copy> Stack<'m, T> {
         Stack { slots, len: 0 }
     }
 
+    #[tactic(auto, using(crate::proofs::Newest::length_newest))]
     pub fn len(&self) -> usize
         ensures { result ≡ length (entries self.now) }
     {
@@ -27,10 +24,12 @@ impl<'m, T: Copy> Stack<'m, T> {
     }
 
     /// Puts an entry on top, unless every slot is taken.
+    #[tactic(auto, using(crate::proofs::Newest::has_room, crate::proofs::Newest::no_room, crate::proofs::Newest::one_more))]
     pub fn push(&mut self, entry: T) -> Result<(), Full>
         ensures kept { Kept self.old self.new }
         ensures pushed { Pushed (room self.old) entry result (entries self.old) (entries self.new) }
     {
+        // a test and not `get_mut`: of a write through that, a proof knows only the slice's length
         if self.len >= self.slots.len() {
             return Err(Full);
         }
@@ -40,14 +39,12 @@ impl<'m, T: Copy> Stack<'m, T> {
     }
 
     /// Takes the entry on top.
+    #[tactic(auto, using(crate::proofs::Newest::none, crate::proofs::Newest::newest_and_rest))]
     pub fn pop(&mut self) -> Option<T>
         ensures kept { Kept self.old self.new }
         ensures popped { Popped result (entries self.old) (entries self.new) }
     {
-        if self.len == 0 {
-            return None;
-        }
-        self.len -= 1;
+        self.len = self.len.checked_sub(1)?;
         Some(self.slots[self.len])
     }
 
@@ -59,41 +56,36 @@ impl<'m, T: Copy> Stack<'m, T> {
     }
 
     /// The entry under `i` newer ones.
+    #[tactic(auto, using(crate::proofs::Newest::length_newest, crate::proofs::Newest::past, crate::proofs::Newest::at))]
     pub fn get(&self, i: usize) -> Option<T>
         ensures { At i result (entries self.now) }
     {
-        if i >= self.len {
-            return None;
-        }
-        Some(read(self.slots, self.len - 1 - i))
+        let at = self.len.checked_sub(1)?.checked_sub(i)?;
+        Some(self.slots[at])
     }
 
     /// Puts another entry in the place of the one on top, which is answered.
+    #[tactic(auto, using(crate::proofs::Newest::none, crate::proofs::Newest::newest_and_others, crate::proofs::Newest::newest_replaced))]
     pub fn replace(&mut self, entry: T) -> Option<T>
         ensures kept { Kept self.old self.new }
         ensures replaced { Replaced entry result (entries self.old) (entries self.new) }
     {
-        if self.len == 0 {
-            return None;
-        }
-        let at = self.len - 1;
-        let old = self.slots[at];
-        self.slots[at] = entry;
-        Some(old)
+        let at = self.len.checked_sub(1)?;
+        let slots = &mut *self.slots;
+        Some(replace(&mut slots[at], entry))
     }
 
     /// The newest `n` entries in the order in which they came.
+    #[tactic(auto, using(crate::proofs::Newest::length_newest, crate::proofs::Newest::newest_part))]
     pub fn newest(&self, n: usize) -> Option<&[T]>
         ensures { Newest n result (entries self.now) }
     {
-        let end = self.len;
-        if n > end {
-            return None;
-        }
-        Some(&self.slots[end - n..end])
+        let start = self.len.checked_sub(n)?;
+        Some(&self.slots[start..self.len])
     }
 
     /// Takes the newest `n` entries off, or all if there are fewer.
+    #[tactic(auto, using(crate::proofs::Newest::without, crate::proofs::Newest::none))]
     pub fn discard(&mut self, n: usize)
         ensures kept { Kept self.old self.new }
         ensures left { entries self.new ≡ drop n (entries self.old) }
@@ -102,6 +94,7 @@ impl<'m, T: Copy> Stack<'m, T> {
     }
 
     /// Takes entries off until there are at most `len`.
+    #[tactic(auto, using(crate::proofs::Newest::length_newest))]
     pub fn truncate(&mut self, len: usize)
         ensures kept { Kept self.old self.new }
         ensures left { entries self.new ≡ drop (length (entries self.old) - len) (entries self.old) }
@@ -109,6 +102,7 @@ impl<'m, T: Copy> Stack<'m, T> {
         self.discard(self.len.saturating_sub(len));
     }
 
+    #[tactic(auto, unfolding(crate::specs::Entries::newest_first))]
     pub fn clear(&mut self)
         ensures kept { Kept self.old self.new }
         ensures empty { entries self.new ≡ [] }

@@ -7,6 +7,7 @@ ghost use Rattle.std.specs.Prelude.{◌≤◌, length};
 pub mod entries;
 
 /// The first `len` slots hold the entries, the newest last.
+// No heap: the slots are lent, so that a slice and a count stand in the place of a `Vec`.
 #[derive(Drop)]
 pub struct Stack<'m, T> {
     slots: &'m mut [T],

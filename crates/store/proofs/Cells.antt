@@ -6,7 +6,7 @@ use Rattle.meaning.specs.Value.{Value, Entries, Text, none, string, map, no_entr
 use Rattle.store.specs.Values.{pushed, inserted, has_parts, has_entries, goes_last, ascends}
 use Rattle.store.specs.Cells.{at_span, of_ref, of_cell, above, meanings, below, inside, fits, fit_above, Sound}
 use Rattle.store.specs.Shown.{Shows}
-use Rattle.store.specs.Kinds.{kind_of, byte_of}
+use Rattle.store.specs.Kinds.{kind_of}
 use Rattle.store.specs.declared.kinds.Kind.{Kind}
 use Rattle.store.specs.declared.cell.TextSpan.{TextSpan}
 use Rattle.store.specs.declared.cell.Ref.{Ref}
@@ -32,13 +32,6 @@ module _ (t : Text) (i : ℕ) (vs : List Value) (front : ℕ) (part : Ref) (len 
       let s = and_parts (leb len i) _ j.1 in
       let q = and_parts (below i part) _ s.1 in
       record { low = ltb-true _ _ p.0; jump_low = ltb-true _ _ j.0; short = leb-true _ _ s.0; part_low = q.0; counted = q.1 }
-
-  pub fits_push : PushFits i vs front part len jump → fits t i vs (Push front part len jump) ≡ true
-  fits_push p =
-      and_from (ltb front i) _ (lt-ltb _ _ p.low)
-      (and_from (ltb jump i) _ (lt-ltb _ _ p.jump_low)
-      (and_from (leb len i) _ (le-leb _ _ p.short)
-      (and_from (below i part) _ p.part_low p.counted)))
 
 pub record InsertFits (t : Text) (i : ℕ) (vs : List Value) (front : ℕ) (key : TextSpan) (part : Ref) (len jump : ℕ) (sorted : Bool) : Type 0 where
   pub low : front < i
@@ -239,12 +232,12 @@ shows t cs i c h l e =
 
 -- a map is what stands in a cell of a map, and its keys ascend
 pub map_shown : (t : Text) (i : ℕ) (ms : List Value) (v : Value) (c : Cell) → Shows t i ms v c → kind_of v ≡ Kind.Map → (es : Entries) × (v ≡ map es) × (ascends es ≡ true)
-map_shown t i ms v (Boolean b) p k = absurd (omega (arith, sym (ap (λ (w : Value). byte_of (kind_of w)) p) ∙ ap byte_of k))
-map_shown t i ms v (Integer n) p k = absurd (omega (arith, sym (ap (λ (w : Value). byte_of (kind_of w)) p) ∙ ap byte_of k))
-map_shown t i ms v (Float b) p k = absurd (omega (arith, sym (ap (λ (w : Value). byte_of (kind_of w)) p) ∙ ap byte_of k))
-map_shown t i ms v (String s) p k = absurd (omega (arith, sym (ap (λ (w : Value). byte_of (kind_of w)) p.0) ∙ ap byte_of k))
-map_shown t i ms v EmptyList p k = absurd (omega (arith, sym (ap (λ (w : Value). byte_of (kind_of w)) p) ∙ ap byte_of k))
-map_shown t i ms v (Push front part len jump) p k = absurd (omega (arith, sym (ap (λ (w : Value). byte_of (kind_of w)) p.value_is) ∙ ap byte_of k))
+map_shown t i ms v (Boolean b) p k = let e = rw p at k in cc
+map_shown t i ms v (Integer n) p k = let e = rw p at k in cc
+map_shown t i ms v (Float b) p k = let e = rw p at k in cc
+map_shown t i ms v (String s) p k = let e = rw p.0 at k in cc
+map_shown t i ms v EmptyList p k = let e = rw p at k in cc
+map_shown t i ms v (Push front part len jump) p k = let e = rw p.value_is at k in cc
 map_shown t i ms v EmptyMap p k = (no_entries, p, refl)
 map_shown t i ms v (Insert front key part len jump sorted) p k = (_, p.value_is, p.ascending)
 
@@ -286,9 +279,6 @@ pub sound_at : {t t' : Text} {cs cs' : List Cell} → t' ≡ t → cs' ≡ cs �
 sound_at e f h = rw (e, f) h
 
 -- the bytes on top, by their span
-pub top_inside : (t more : Text) (s : TextSpan) → s.start ≡ length t → s.len ≡ length more → inside (length (t ++ more)) s ≡ true
-top_inside t more s at long = le-leb _ _ (omega (arith, length-append t more))
-
 pub top_span : (t more : Text) (s : TextSpan) → s.start ≡ length t → s.len ≡ length more → at_span (t ++ more) s ≡ more
 top_span t more s at long = ap (take s.len) (drop_at t more s.start (sym at)) ∙ take_all s.len more (omega arith)
 

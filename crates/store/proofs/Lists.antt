@@ -1,12 +1,12 @@
 -- What a list that was pushed to has, and a map into which was inserted.
-use Rattle.std.proofs.Common.{◌≡◌, ℕ, zero, suc, ◌+◌, ◌<◌, ◌≤◌, Bool, true, false, cond, not, ◌||◌, eqb, List, [], ◌∷◌, length, get_or, drop, sym, refl, ap, ◌∙◌, arith, length-drop}
+use Rattle.std.proofs.Common.{◌≡◌, ℕ, zero, suc, ◌+◌, ◌<◌, ◌≤◌, Bool, true, false, cond, not, ◌||◌, eqb, List, length, get_or, drop, sym, refl, ap, ◌∙◌, arith, length-drop}
 use mathlib.Core.Option.{Option, none, some}
 use Rattle.std.proofs.lemmas.List.{length-take-le}
 use Rattle.std.proofs.lemmas.Bool.{and_parts, and_from, cond-true, cond-false, eqb-true, false≢true, eq-eqb, ne_eqb, leb-true}
 use Rattle.std.specs.Str.{bytes_eq as same_text}
 use Rattle.meaning.specs.Bytes.{precedes}
 use Rattle.meaning.specs.Value.{Value, Items, Entries, Text, none as none_value, boolean, integer, float, string, list, map, no_items, item, no_entries, entry}
-use Rattle.meaning.specs.Parts.{append, count_items, nth, insert, count_entries, truth, non_empty, kind}
+use Rattle.meaning.specs.Parts.{append, count_items, nth, insert, count_entries, truth, kind}
 use Rattle.store.specs.Values.{pushed, inserted, part_of, entry_in, above_bound, first_in, lower, has_parts, has_entries, goes_last, above_all, ascends}
 use Rattle.store.specs.Cells.{at_span, inside, of_ref}
 use Rattle.store.specs.Shown.{ShowsPush, ShowsInsert}
@@ -100,13 +100,6 @@ insert_some (entry l w es) k v = some_either (same_text k l) _ _ (omega arith) (
 pub length_span : (t : Text) (s : TextSpan) → inside (length t) s ≡ true → length (at_span t s) ≡ s.len
 length_span t s h = length-take-le s.len (drop s.start t) (omega (arith, leb-true _ _ h, length-drop s.start t))
 
-pub span_true : (t : Text) (s : TextSpan) → inside (length t) s ≡ true → truth (string (at_span t s)) ≡ not (eqb s.len 0)
-span_true t s h = by (at_span t s) ∙ ap (λ (n : ℕ). not (eqb n 0)) (length_span t s h)
-  where
-    by : (u : Text) → non_empty u ≡ not (eqb (length u) 0)
-    by [] = refl
-    by (b ∷ u) = sym (ap not (ne_eqb (suc (length u)) 0 (omega arith)))
-
 pub kind_byte : (v : Value) → byte_of (kind_of v) ≡ kind v
 kind_byte none_value = refl
 kind_byte (boolean b) = refl
@@ -118,22 +111,19 @@ kind_byte (map es) = refl
 
 -- a list that is pushed to has one part more
 pub pushed_counts : (f v : Value) → kind_of f ≡ Kind.List → has_parts (size_of f + 1) (pushed f v) ≡ true
-pushed_counts none_value v h = absurd (omega (arith, ap byte_of h))
-pushed_counts (boolean b) v h = absurd (omega (arith, ap byte_of h))
-pushed_counts (integer n) v h = absurd (omega (arith, ap byte_of h))
-pushed_counts (float b) v h = absurd (omega (arith, ap byte_of h))
-pushed_counts (string t) v h = absurd (omega (arith, ap byte_of h))
+pushed_counts none_value v h = cc
+pushed_counts (boolean b) v h = cc
+pushed_counts (integer n) v h = cc
+pushed_counts (float b) v h = cc
+pushed_counts (string t) v h = cc
 pushed_counts (list xs) v h = eq-eqb _ _ (count_append xs v)
-pushed_counts (map es) v h = absurd (omega (arith, ap byte_of h))
+pushed_counts (map es) v h = cc
 
 -- a map into which is inserted has one entry more unless it has the key
 pub inserted_counts : (f : Value) (es : Entries) (k : Text) (v : Value) → f ≡ map es → ascends es ≡ true → has_entries (size_of f + cond (is_some (entry_in f k)) 0 1) (inserted f k v) ≡ true
 inserted_counts f es k v e a = rw e (and_from _ _ (eq-eqb _ _ (count_insert es k v a)) (ascends_insert es k v a))
 
 module _ {t : Text} {i : ℕ} {ms : List Value} {front : ℕ} {key : TextSpan} {part : Ref} {len jump : ℕ} {sorted : Bool} {v : Value} (p : ShowsInsert t i ms front key part len jump sorted v) where
-  pub insert_size : len ≡ size_of v
-  insert_size = sym (ap size_of p.value_is ∙ p.counted)
-
   pub insert_true : truth v ≡ true
   insert_true = ap truth p.value_is ∙ ap not (ne_eqb _ 0 (omega (arith, insert_some p.entries (at_span t key) (of_ref ms part))))
 

@@ -1,22 +1,17 @@
 -- The entries of a map by their numbers in the order of keys: each is the first above the key of the one before it.
-use Rattle.std.proofs.Common.{◌≡◌, ℕ, zero, suc, ◌+◌, ◌≤◌, true, [], None, sym, refl, ap, ◌∙◌, subst, add-one, arith}
+use Rattle.std.proofs.Common.{◌≡◌, ℕ, zero, suc, ◌+◌, ◌≤◌, true, [], sym, refl, ap, ◌∙◌, subst, add-one, arith}
 use mathlib.Core.Option.{Option, none, some}
 use Rattle.std.proofs.lemmas.Bool.{and_parts, cond-true, cond-false}
-use Rattle.std.specs.declared.option.Option as code
 use Rattle.meaning.specs.Bytes.{precedes}
 use Rattle.meaning.specs.Value.{Value, Entries, Text, none as none_value, boolean, integer, float, string, list, map, no_entries, entry}
-use Rattle.store.specs.Kinds.{kind_of, byte_of}
-use Rattle.store.specs.Stores.{EntryKnown, Known, shown, value}
+use Rattle.store.specs.Kinds.{kind_of}
+use Rattle.store.specs.Stores.{Known, value}
 use Rattle.store.specs.Values.{nth_entry, entry_at, first_above, first_in, starts_above, ascends}
-use Rattle.store.specs.declared.cell.Entry.{Entry}
 use Rattle.store.specs.declared.cell.Ref.{Ref}
 use Rattle.store.specs.declared.cell.Ref.TheVariants.{None as Nothing, At}
 use Rattle.store.specs.declared.memory.Store.{Store}
 use Rattle.store.proofs.Keys.{precedes_trans, precedes_back, precedes_itself}
 use Rattle.store.proofs.Stores.{store_map, known_at}
-
-clash : {A B : Type 0} {a : A} → none ≡ some a → B
-clash {A} {B} {a} e = let z : ◌≡◌ {A = ℕ} 0 1 = cc in absurd (omega arith)
 
 pair_key : {k l : Text} {v w : Value} → ◌≡◌ {A = Option (Text × Value)} (some (k, v)) (some (l, w)) → k ≡ l
 pair_key {k} {l} {v} {w} e = ap (λ (o : Option (Text × Value)). elim o [ none ↦ [] | some p ↦ p.0 ]) e
@@ -31,14 +26,14 @@ starts_nth l no_entries s = refl
 starts_nth l (entry k v es) s = cond-true (precedes l k) _ _ s
 
 keys_above : (l : Text) (es : Entries) (i : ℕ) (k : Text) (v : Value) → starts_above l es ≡ true → ascends es ≡ true → nth_entry es i ≡ some (k, v) → precedes l k ≡ true
-keys_above l no_entries i k v s a e = clash e
+keys_above l no_entries i k v s a e = cc
 keys_above l (entry m w es) zero k v s a e = subst (λ (x : Text). precedes l x ≡ true) (pair_key e) s
 keys_above l (entry m w es) (suc i) k v s a e =
     let p = and_parts (starts_above m es) (ascends es) a in
     precedes_trans l m k s (keys_above m es i k v p.0 p.1 e)
 
 next_nth : (es : Entries) (i : ℕ) (k : Text) (v : Value) → ascends es ≡ true → nth_entry es i ≡ some (k, v) → first_above es (some k) ≡ nth_entry es (suc i)
-next_nth no_entries i k v a e = clash e
+next_nth no_entries i k v a e = cc
 next_nth (entry l w es) zero k v a e =
     let p = and_parts (starts_above l es) (ascends es) a in
     rw (← pair_key e) (cond-false (precedes l l) _ _ (precedes_itself l) ∙ starts_nth l es p.0)
@@ -48,7 +43,7 @@ next_nth (entry l w es) (suc i) k v a e =
 
 past_nth : (es : Entries) (i n : ℕ) → nth_entry es i ≡ none → i ≤ n → nth_entry es n ≡ none
 past_nth no_entries i n e l = refl
-past_nth (entry k v es) zero n e l = clash (sym e)
+past_nth (entry k v es) zero n e l = cc
 past_nth (entry k v es) (suc i) zero e l = absurd (omega arith)
 past_nth (entry k v es) (suc i) (suc n) e l = past_nth es i n e (omega arith)
 
@@ -92,15 +87,9 @@ after_entry v i k w o h n = rw add-one (n ∙ next_at v i k w o (sym h))
 -- IN A STORE
 
 pub store_ordered : (s : Store) (r : Ref) → Known s r → Ordered (value s r)
-store_ordered s Nothing k es e = absurd (omega (arith, ap (λ (v : Value). byte_of (kind_of v)) e))
+store_ordered s Nothing k es e = cc
 store_ordered s (At i) k es e =
     let m = store_map s i (known_at s refl k) (ap kind_of e) in
-    let same : m.0 ≡ es = entries_same (sym m.1 ∙ e) in
-    subst (λ (x : Entries). ascends x ≡ true) same m.2
-  where
-    entries_same : {a b : Entries} → map a ≡ map b → a ≡ b
-    entries_same {a} {b} h = cc
-
--- no entry has that number
-pub none_found : (s : Store) (v : Value) (i n : ℕ) (r : code.Option Entry) → r ≡ None → entry_at v i ≡ none → i ≤ n → (shown s r ≡ entry_at v n) × EntryKnown s r
-none_found s v i n r e h l = rw e (sym (past_at v i n h l), tt)
+    let both : map m.0 ≡ map es = sym m.1 ∙ e in
+    let same : m.0 ≡ es = cc in
+    rw (sym same) m.2

@@ -8,7 +8,7 @@ use Rattle.std.specs.declared.option.Option as code
 use Rattle.meaning.specs.Charge.{Charge, ◌⊕◌, cell_and_text, within}
 use Rattle.meaning.specs.Value.{Value, Entries, Text, none as none_value, map}
 use Rattle.store.specs.Values.{entry_in, has_entries, inserted, ascends}
-use Rattle.store.specs.Cells.{of_ref, of_cell, meanings, below, fits}
+use Rattle.store.specs.Cells.{of_ref, of_cell, meanings, fits}
 use Rattle.store.specs.Kinds.{kind_of, size_of}
 use Rattle.store.specs.Shown.{Shows}
 use Rattle.store.specs.Stores.{Known, Found, SameMemory, Over, Height, Freed, PutBack, Grown, Added, Made, used, supply, cells_of, text_of, value, values_of}
@@ -36,10 +36,10 @@ bytes_paid {a} {b} e = ap (λ (c : Charge). c.bytes) e
 
 -- as many cells and bytes lie in use as the tally says
 pub cells_count : (s : Store) → length (cells_of s) ≡ (used s).cells
-cells_count s = length-take-le (used s).cells s.cells.now s.cells_fit.0
+cells_count s = length-take-le (used s).cells s.cells.now s.supplied.cells_fit.0
 
 pub text_count : (s : Store) → length (text_of s) ≡ (used s).bytes
-text_count s = length-take-le (used s).bytes s.text.now s.bytes_fit.0
+text_count s = length-take-le (used s).bytes s.text.now s.supplied.bytes_fit.0
 
 -- what it says that the supply holds a charge
 pub record Room (s : Store) (more : Charge) : Type 0 where
@@ -71,7 +71,7 @@ pub record Puts (before after : Store) (c : Cell) (more : Text) : Type 0 where
   pub fit : fits (text_of before ++ more) (used before).cells (values_of before) c ≡ true
 
 pub store_extended : (s : Store) (c : Cell) (more : Text) → fits (text_of s ++ more) (used s).cells (values_of s) c ≡ true → Extended (text_of s) more (cells_of s) c
-store_extended s c more f = extended (text_of s) more (cells_of s) c s.sound (rw (cells_count s) f)
+store_extended s c more f = extended (text_of s) more (cells_of s) c s.supplied.sound (rw (cells_count s) f)
 
 refs_keep : (s : Store) (vs : List Value) (r : Ref) → Agree (length (cells_of s)) (values_of s) vs → Known s r → of_ref vs r ≡ value s r
 refs_keep s vs Nothing a k = refl
@@ -100,36 +100,17 @@ added_as {before} {after} {more} {v} {w} {r} e a = record { grown = a.grown; kno
 -- READING
 
 pub store_shows : (s : Store) (i : ℕ) (c : Cell) → i < (used s).cells → c ≡ get_or (cells_of s) i c → Shows (text_of s) i (values_of s) (get_or (values_of s) i none_value) c
-store_shows s i c l e = shows (text_of s) (cells_of s) i c s.sound (rw (cells_count s) l) e
+store_shows s i c l e = shows (text_of s) (cells_of s) i c s.supplied.sound (rw (cells_count s) l) e
 
 -- what stands at a place of the memory that is in use
 pub memory_shows : (s : Store) (i : ℕ) (d : Cell) → i < (used s).cells → Shows (text_of s) i (values_of s) (get_or (values_of s) i none_value) (get_or s.cells.now i d)
 memory_shows s i d l =
     let c = get_or s.cells.now i d in
-    let low : i < length s.cells.now = omega (arith, s.cells_fit) in
+    let low : i < length s.cells.now = omega (arith, s.supplied.cells_fit) in
     store_shows s i c l (get_or_default s.cells.now i d c low ∙ sym (get_or-take (used s).cells s.cells.now i c l))
-
-pub found_none : (s : Store) (o : Option Value) → o ≡ none → Found s o None
-found_none s o e = rw e tt
-
-pub found_some : (s : Store) (o : Option Value) (r : Ref) → o ≡ some (value s r) → Known s r → Found s o (Some r)
-found_some s o r e k = rw e (k, refl)
-
--- what a reference to a cell stands for
-pub at_cell : (s : Store) {r : Ref} {i : ℕ} → r ≡ At i → value s r ≡ get_or (values_of s) i none_value
-at_cell s e = ap (value s) e
 
 pub known_at : (s : Store) {r : Ref} {i : ℕ} → r ≡ At i → Known s r → i < (used s).cells
 known_at s {r} {i} e k = ltb-true i (used s).cells (subst (Known s) e k)
-
--- what is known of a cell below is known of the store
-pub known_below : (s : Store) (i : ℕ) (r : Ref) → i < (used s).cells → below i r ≡ true → Known s r
-known_below s i Nothing l h = refl
-known_below s i (At k) l h = lt-ltb _ _ (omega (arith, ltb-true _ _ h))
-
--- a walk from the cell i of r to the cell `here` that keeps what F says
-pub walked : (s : Store) {A : Type 0} (F : Value → A) {r : Ref} {i : ℕ} (here : ℕ) → r ≡ At i → F (get_or (values_of s) here none_value) ≡ F (get_or (values_of s) i none_value) → F (value s r) ≡ F (get_or (values_of s) here none_value)
-walked s F here e inv = ap F (at_cell s e) ∙ sym inv
 
 -- the map in a cell in use
 pub store_map : (s : Store) (i : ℕ) → i < (used s).cells → kind_of (get_or (values_of s) i none_value) ≡ Kind.Map → (es : Entries) × (get_or (values_of s) i none_value ≡ map es) × (ascends es ≡ true)
@@ -163,7 +144,7 @@ pub over_height : (old s : Store) → Over old s → Height s (used old)
 over_height old s o = record {
   cells_low = omega (arith, ap length o.cells_under, length-take (used old).cells (cells_of s), cells_count s, cells_count old);
   bytes_low = omega (arith, ap length o.text_under, length-take (used old).bytes (text_of s), text_count s, text_count old);
-  sound = sound_at o.text_under o.cells_under old.sound;
+  sound = sound_at o.text_under o.cells_under old.supplied.sound;
 }
 
 same_memory_trans : (a b c : Store) → SameMemory a b → SameMemory b c → SameMemory a c
@@ -186,7 +167,7 @@ freed_back old s new o f = record {
 -- a store that another was cut back to has what its references stand for
 under_keeps : (old s : Store) (at : Charge) → cells_of old ≡ take at.cells (cells_of s) → text_of old ≡ take at.bytes (text_of s) → (r : Ref) → Known old r → value s r ≡ value old r
 under_keeps old s at e f r k =
-    let low = sound_at (sym f) (sym e) old.sound in
+    let low = sound_at (sym f) (sym e) old.supplied.sound in
     let agree = persist (text_of s) (cells_of s) at.bytes at.cells low in
     refs_keep old (values_of s) r (rw (e, f) agree) k
 

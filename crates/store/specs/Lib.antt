@@ -1,5 +1,6 @@
 pub mod Kinds
 pub mod Values
 pub mod Cells
+pub mod Supplied
 pub mod Shown
 pub mod Stores

@@ -1,13 +1,15 @@
 -- What a store holds, and what making a value does to it.
-use Rattle.std.specs.Prelude.{◌≡◌, ◌≤◌, min, true, false, List, length, take, Some, None, Ok, Err, Result}
+use Rattle.std.specs.Prelude.{◌≡◌, ℕ, ◌≤◌, min, true, false, List, length, take, Some, None, Ok, Err, Result}
 use Rattle.std.proofs.Math.Option.{Option, none, some}
 use Rattle.std.specs.declared.option.Option as code
-use Rattle.meaning.specs.Value.{Value, Text}
-use Rattle.meaning.specs.Charge.{Charge, ◌⊕◌, within}
+use Rattle.meaning.specs.Value.{Value, Text, none as none_value}
+use Rattle.meaning.specs.Charge.{Charge, ◌⊕◌, cell_and_text, within}
 use Rattle.store.specs.Cells.{Sound, at_span, inside, of_ref, meanings, below}
+use Rattle.store.specs.Shown.{Shows}
 use Rattle.store.specs.declared.cell.Cell.{Cell}
 use Rattle.store.specs.declared.cell.Entry.{Entry}
 use Rattle.store.specs.declared.cell.Ref.{Ref}
+use Rattle.store.specs.declared.cell.Ref.TheVariants as ref
 use Rattle.store.specs.declared.cell.TextSpan.{TextSpan}
 use Rattle.store.specs.declared.memory.Full.{Full}
 use Rattle.store.specs.declared.memory.Store.{Store}
@@ -43,6 +45,16 @@ value s r = of_ref (values_of s) r
 abbrev pub Known : Store → Ref → Type 0
 Known s r = below (used s).cells r ≡ true
 
+-- the number of the cell that a reference names, if any
+abbrev pub number : Ref → ℕ
+number ref.None = 0
+number (ref.At i) = i
+
+-- the cell that a reference names says what the reference stands for, which is none where it names no cell
+abbrev pub ShownIn : Store → Ref → code.Option Cell → Type 0
+ShownIn s r None = value s r ≡ none_value
+ShownIn s r (Some c) = Shows (text_of s) (number r) (values_of s) (value s r) c
+
 -- CHANGES
 
 -- the same memory is lent, which has its fixed size
@@ -71,6 +83,11 @@ pub record Added (before after : Store) (more : Charge) (v : Value) (r : Ref) : 
   pub grown : Grown before after more
   pub known : Known after r
   pub means : value after r ≡ v
+
+-- where bytes will lie that are put on top with one cell; or they pass the supply
+abbrev pub Placed : Store → Text → Result TextSpan Full → Type 0
+Placed s more (Ok span) = (within (supply s) (used s ⊕ cell_and_text more) ≡ true) × (span.start ≡ (used s).bytes) × (span.len ≡ length more)
+Placed s more (Err full) = within (supply s) (used s ⊕ cell_and_text more) ≡ false
 
 -- a value was made for that charge; or the charge passes the supply, and nothing changed
 abbrev pub Made : Store → Store → Charge → Value → Result Ref Full → Type 0

@@ -1,6 +1,8 @@
 //! What a store holds: cells that are written once, and refer only to cells below themselves.
 
-/// A value: none, or the number of the cell that holds it.
+/// A value: none, or the number of the cell that holds it. It is no `Option`, since none is one of the values:
+/// an `Option<Ref>` says whether there is a value at all, which may be none.
+/// It borrows nothing from its store, so that more can be made while it is in hand; `Known` says that it belongs there.
 #[derive(Clone, Copy, PartialEq, Eq, Debug)]
 pub enum Ref {
     None,

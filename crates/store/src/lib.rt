@@ -5,4 +5,3 @@
 pub mod cell;
 pub mod kinds;
 pub mod memory;
-pub mod text;

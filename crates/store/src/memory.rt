@@ -1,7 +1,6 @@
 //! The store: a view over lent memory, of which the lowest cells and bytes are in use.
 
-ghost use Rattle.std.specs.Prelude.{◌≤◌, length, take};
-ghost use Rattle.store.specs.Cells.{Sound};
+ghost use Rattle.store.specs.Supplied.{Supplied};
 
 use crate::cell::Cell;
 
@@ -18,14 +17,14 @@ pub struct Tally {
 }
 
 /// What lies above the tally is free. Of the memory supplied, 65,535 cells and as many bytes are used at most.
+/// A store has no heap, so cells refer to one another by number, and lowering the tally frees all above it at once.
+/// The tally is lent too: it is known after the view has ended.
 #[derive(Drop)]
 pub struct Store<'m> {
     cells: &'m mut [Cell],
     text: &'m mut [u8],
     tally: &'m mut Tally,
-    ghost sound: { Sound (take tally.now.bytes text.now) (take tally.now.cells cells.now) },
-    ghost cells_fit: { (tally.now.cells ≤ length cells.now) × (tally.now.cells ≤ 65535) },
-    ghost bytes_fit: { (tally.now.bytes ≤ length text.now) × (tally.now.bytes ≤ 65535) },
+    ghost supplied: { Supplied cells.now text.now tally.now },
 }
 
 /// The supply does not hold what was to be made.

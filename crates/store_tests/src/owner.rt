@@ -1,9 +1,9 @@
 //! An owner of a store's memory: it lends the memory to a view for each piece of work, and knows afterwards what the
 //! memory holds.
 
-ghost use Rattle.std.specs.Prelude.{◌≡◌, ◌≤◌, length, take, vec_len};
-ghost use Rattle.store.specs.Cells.{Sound};
+ghost use Rattle.std.specs.Prelude.{◌≡◌, take};
 ghost use Rattle.store.specs.Stores.{Over};
+ghost use Rattle.store.specs.Supplied.{Supplied};
 
 use store::cell::{Cell, Ref};
 use store::memory::{Full, Store, Tally};
@@ -12,9 +12,7 @@ pub struct Owner {
     cells: Vec<Cell>,
     text: Vec<u8>,
     tally: Tally,
-    ghost sound: { Sound (take tally.bytes text.items) (take tally.cells cells.items) },
-    ghost cells_fit: { (tally.cells ≤ vec_len cells) × (tally.cells ≤ 65535) },
-    ghost bytes_fit: { (tally.bytes ≤ vec_len text) × (tally.bytes ≤ 65535) },
+    ghost supplied: { Supplied cells.items text.items tally },
 }
 
 /// Some values.
@@ -28,12 +26,8 @@ fn make_values(store: &mut Store) -> Result<Ref, Full>
 
 /// The same in memory that is lent.
 fn make_in(cells: &mut [Cell], text: &mut [u8], tally: &mut Tally) -> Result<Ref, Full>
-    requires sound { Sound (take tally.old.bytes text.old) (take tally.old.cells cells.old) }
-    requires cells_fit { (tally.old.cells ≤ length cells.old) × (tally.old.cells ≤ 65535) }
-    requires bytes_fit { (tally.old.bytes ≤ length text.old) × (tally.old.bytes ≤ 65535) }
-    ensures sound { Sound (take tally.new.bytes text.new) (take tally.new.cells cells.new) }
-    ensures cells_fit { (tally.new.cells ≤ length cells.new) × (tally.new.cells ≤ 65535) }
-    ensures bytes_fit { (tally.new.bytes ≤ length text.new) × (tally.new.bytes ≤ 65535) }
+    requires { Supplied cells.old text.old tally.old }
+    ensures supplied { Supplied cells.new text.new tally.new }
     ensures cells_under { take tally.old.cells (take tally.new.cells cells.new) ≡ take tally.old.cells cells.old }
 {
     let mut store = Store::new(cells, text, tally);

@@ -1,8 +1,14 @@
 -- What is read of the templates by an index.
-use Rattle.std.proofs.Common.{◌≡◌, ℕ, zero, suc, ◌+◌, ◌-◌, ◌*◌, ◌<◌, ◌≤◌, true, List, [], ◌∷◌, length, get_or, take, drop, Some, None, vec_items, sym, ap, ◌∙◌, ap₂, arith, length-drop, length-take}
+use Rattle.std.proofs.Common.{◌≡◌, ℕ, zero, suc, ◌+◌, ◌-◌, ◌*◌, ◌<◌, ◌≤◌, true, List, [], ◌∷◌, length, get_or, take, drop, Some, None, vec_items, sym, ap, subst, ◌∙◌, ap₂, arith}
 use mathlib.Core.Option.{some}
 use Rattle.std.specs.declared.option.Option as code_option
-use Rattle.std.proofs.lemmas.List.{length-take-le, take-take, drop-take, drop-drop, get_or-take, get_or-drop}
+use Rattle.std.specs.List.{slice_get}
+use Rattle.std.specs.Borrow.{Bor}
+use Rattle.std.specs.Option.{option_copied}
+use Rattle.std.specs.Slice.{IsItemAt}
+use Rattle.std.proofs.lemmas.Grind.{common_steps}
+use Rattle.std.proofs.lemmas.Option.{slice_get_past, slice_get-get_or}
+use Rattle.std.proofs.lemmas.List.{length-take-le, take-take, drop-take, drop-drop}
 use Rattle.std.proofs.lemmas.Bool.{and_parts}
 use Rattle.std.specs.Cmp.Lexicographic.{bytes_decides}
 use Rattle.meaning.specs.Fault.{Fault}
@@ -16,13 +22,12 @@ use Rattle.program.specs.Program as program
 use Rattle.checker.specs.Whole.{unpacks}
 use Rattle.checker.proofs.WholeThere.{template_scope}
 use Rattle.compiler.specs.declared.instr.Instr.{Instr}
-use Rattle.compiler.specs.Records.{instr_of}
-use Rattle.templates.specs.Entries.{instrs_at, source_of, tree_of, records_of, scope_of, template_of, trees, means, sound, Located}
-use Rattle.templates.specs.Held.{entries_of, templates_of, name_at, template_at, tree_at, Finds, instr_at}
+use Rattle.templates.specs.Entries.{source_of, tree_of, records_of, scope_of, template_of, trees, means, sound, Located}
+use Rattle.templates.specs.Held.{entries_of, templates_of, name_at, template_at, tree_at, Finds, Fetches}
 use Rattle.templates.specs.declared.entry.Entry.{Entry}
 use Rattle.templates.specs.declared.table.Templates.{Templates}
 use Rattle.templates.proofs.Kept.{sound_at}
-use Rattle.templates.proofs.Meanings.{means_length, means_at}
+use Rattle.templates.proofs.Meanings.{means_fetches}
 use Rattle.templates.proofs.Names.{held_length, held_at, find_first, find_none}
 
 -- what unpacked is the tree of the template
@@ -32,19 +37,21 @@ unpacked source tree ok =
 
 trees_at : (bytes : List ℕ) (es : List Entry) (i : ℕ) (e : Entry) → i < length es → e ≡ get_or es i e → get_or (trees bytes es) i [] ≡ tree_of bytes e
 trees_at bytes [] i e h is = absurd (omega arith)
-trees_at bytes (x ∷ es) zero e h is = ap (tree_of bytes) (sym is)
+trees_at bytes (x ∷ es) zero e h is = cc
 trees_at bytes (x ∷ es) (suc i) e h is = trees_at bytes es i e (omega arith) is
 
 -- what a list begins with from an index on stands there
 at_of : (es : List Entry) (i : ℕ) (e : Entry) → drop i es ≡ e ∷ drop (suc i) es → e ≡ get_or es i e
-at_of es i e is =
-    let here : i + 0 ≡ i = omega arith in
-    sym (ap (λ n. get_or es n e) (sym here) ∙ sym (get_or-drop i es 0 e) ∙ ap (λ (x : List Entry). get_or x 0 e) is)
+at_of es i e is = grind (arith, common_steps)
 
 -- a part that is lent
 pub lent : {A : Type 0} (xs ys : List A) (start size : ℕ) → xs ≡ ys → take (start + size - start) (drop start xs) ≡ take size (drop start ys)
-lent xs ys start size e =
-    let same : start + size - start ≡ size = omega arith in ap₂ (λ n l. take n (drop start l)) same e
+lent xs ys start size e = grind arith
+
+-- an element that is lent, if there is one
+pub item_is : {A : Type 0} (xs : List A) (i : ℕ) (r : code_option.Option (Bor A)) → IsItemAt xs i r → option_copied r ≡ slice_get xs i
+item_is xs i None h = sym (slice_get_past xs i h.3)
+item_is xs i (Some x) h = ap Some h.1 ∙ sym (slice_get-get_or xs i x.now h.3.0)
 
 module _ (t : Templates) where
   pub used : length (entries_of t) ≡ t.count
@@ -103,20 +110,13 @@ module _ (t : Templates) where
     meant =
         ap₂ (λ (s : List ℕ) (x : Template). means s records (program.compile x.tree)) tree_is template_is ∙ both.1
 
-    pub program_length : e.len ≡ length (program.compile (template_at (templates_of t) i).tree)
-    program_length =
-        let instrs = vec_items t.instrs in
-        let size : length records ≡ e.len = simp (length-take, length-drop) (omega (arith, t.instrs.ok.0)) in
-        sym size ∙ means_length (tree_at t i) records code meant
-
-    pub program_at : (pc : ℕ) (d : Instr) → pc < e.len → instr_of (tree_at t i) (get_or (vec_items t.instrs) (e.place * 1024 + pc) d) ≡ instr_at (program.compile (template_at (templates_of t) i).tree) pc
-    program_at pc d below =
-        let instrs = vec_items t.instrs in
-        let size : length records ≡ e.len = simp (length-take, length-drop) (omega (arith, t.instrs.ok.0)) in
-        let inside : pc < 1024 = omega arith in
-        let here : get_or records pc d ≡ get_or instrs (e.place * 1024 + pc) d =
-        get_or-take e.len (instrs_at instrs e.place) pc d below ∙ get_or-take 1024 (drop (e.place * 1024) instrs) pc d inside ∙ get_or-drop (e.place * 1024) instrs pc d in
-        ap (instr_of (tree_at t i)) (sym here) ∙ means_at (tree_at t i) records code meant pc d (omega arith)
+    pub fetched : (pc : ℕ) (r : code_option.Option Instr) → r ≡ slice_get (take e.len (drop (e.place * 1024) (vec_items t.instrs))) pc →
+        Fetches (tree_at t i) (program.compile (template_at (templates_of t) i).tree) pc r
+    fetched pc r got =
+        let fits : e.len ≤ 1024 = omega arith in
+        subst (Fetches (tree_at t i) code pc)
+        (ap (λ (xs : List Instr). slice_get xs pc) (take-take e.len 1024 (drop (e.place * 1024) (vec_items t.instrs)) fits) ∙ sym got)
+        (means_fetches (tree_at t i) records code meant pc)
 
   -- a name that was located
   pub finds : (name : Text) (r : code_option.Option ℕ) → Located name (entries_of t) r → Finds (templates_of t) name r

@@ -1,6 +1,7 @@
 -- What is written at one place leaves the entries at other places as they were.
 use Rattle.std.proofs.Common.{◌≡◌, ℕ, zero, suc, ◌+◌, ◌*◌, ◌<◌, ◌≤◌, Bool, true, ◌&&◌, ◌⊎◌, List, [], ◌∷◌, ◌++◌, length, get_or, take, drop, refl, ap, ◌∙◌, inl, inr, arith}
-use Rattle.std.proofs.lemmas.Bool.{cases_order, eq-eqb, and_parts, and_from}
+use Rattle.std.proofs.lemmas.Grind.{common_steps}
+use Rattle.std.proofs.lemmas.Bool.{cases_order, eq-eqb, and_parts}
 use Rattle.meaning.specs.Names.{name_of}
 use Rattle.compiler.specs.declared.instr.Instr.{Instr}
 use Rattle.templates.specs.Entries.{bytes_at, instrs_at, source_of, tree_of, records_of, template_from, held, sound, all_sound, lies, times}
@@ -72,21 +73,17 @@ module _ (bytes : List ℕ) (instrs : List Instr) where
 
   pub sound_join : (xs ys : List Entry) → all_sound bytes instrs xs ≡ true → all_sound bytes instrs ys ≡ true → all_sound bytes instrs (xs ++ ys) ≡ true
   sound_join [] ys sx sy = sy
-  sound_join (x ∷ xs) ys sx sy =
-      let parts = and_parts (here x) (all_sound bytes instrs xs) sx in
-      and_from (here x) (all_sound bytes instrs (xs ++ ys)) parts.0 (sound_join xs ys parts.1 sy)
+  sound_join (x ∷ xs) ys sx sy = let rest = sound_join xs ys in grind (arith, common_steps)
 
   pub sound_take : (n : ℕ) (es : List Entry) → all_sound bytes instrs es ≡ true → all_sound bytes instrs (take n es) ≡ true
   sound_take zero es s = refl
   sound_take (suc n) [] s = refl
-  sound_take (suc n) (e ∷ es) s =
-      let parts = and_parts (here e) (all_sound bytes instrs es) s in
-      and_from (here e) (all_sound bytes instrs (take n es)) parts.0 (sound_take n es parts.1)
+  sound_take (suc n) (e ∷ es) s = let rest = sound_take n es in grind (arith, common_steps)
 
   pub sound_drop : (n : ℕ) (es : List Entry) → all_sound bytes instrs es ≡ true → all_sound bytes instrs (drop n es) ≡ true
   sound_drop zero es s = s
   sound_drop (suc n) [] s = refl
-  sound_drop (suc n) (e ∷ es) s = sound_drop n es (and_parts (here e) (all_sound bytes instrs es) s).1
+  sound_drop (suc n) (e ∷ es) s = let rest = sound_drop n es in grind (arith, common_steps)
 
   pub sound_at : (es : List Entry) (i : ℕ) (e : Entry) → i < length es → e ≡ get_or es i e → all_sound bytes instrs es ≡ true → sound (source_of bytes e) (tree_of bytes e) (records_of instrs e) ≡ true
   sound_at [] i e h is s = absurd (omega arith)

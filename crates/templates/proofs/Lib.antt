@@ -5,3 +5,4 @@ pub mod Names
 pub mod Spots
 pub mod Kept
 pub mod Indexed
+pub mod Found

@@ -1,8 +1,9 @@
 -- What a name finds among the templates that entries stand for, and what is left where it is put or removed.
 use Rattle.std.proofs.Common.{◌≡◌, ℕ, suc, ◌<◌, false, List, [], ◌∷◌, ◌++◌, length, get_or, take, drop, sym, refl, ap, ◌∙◌, ap₂, inl, inr, append-nil, arith}
 use mathlib.Core.Option.{none, some}
+use Rattle.std.proofs.lemmas.Grind.{common_steps}
 use Rattle.std.proofs.lemmas.List.{take-append-drop, take_all, drop_all}
-use Rattle.std.proofs.lemmas.Bool.{cond-true, cond-false, or_parts, or_from}
+use Rattle.std.proofs.lemmas.Bool.{cond-true}
 use Rattle.std.specs.Str.{bytes_eq as same_text}
 use Rattle.meaning.specs.Names.{name_of}
 use Rattle.meaning.specs.Reading.{Template, Templates, find}
@@ -11,16 +12,10 @@ use Rattle.model.specs.Model.{put, without}
 use Rattle.templates.specs.Entries.{held, named, template_of, First, Goes}
 use Rattle.templates.specs.declared.entry.Entry.{Entry}
 
-pub named_push : (name : Text) (es : List Entry) (e : Entry) → named name es ≡ false → same_text name (name_of e.name) ≡ false → named name (es ++ (e ∷ [])) ≡ false
-named_push name [] e none_of other = or_from (same_text name (name_of e.name)) false other refl
-named_push name (x ∷ es) e none_of other =
-    let parts = or_parts (same_text name (name_of x.name)) (named name es) none_of in
-    or_from (same_text name (name_of x.name)) (named name (es ++ (e ∷ []))) parts.0 (named_push name es e parts.1 other)
-
 module _ (bytes : List ℕ) where
   pub held_append : (xs ys : List Entry) → held bytes (xs ++ ys) ≡ held bytes xs ++ held bytes ys
   held_append [] ys = refl
-  held_append (a ∷ xs) ys = ap (λ (ts : Templates). (name_of a.name, template_of bytes a) ∷ ts) (held_append xs ys)
+  held_append (a ∷ xs) ys = let rest = held_append xs ys in cc
 
   pub held_length : (es : List Entry) → length (held bytes es) ≡ length es
   held_length [] = refl
@@ -28,7 +23,7 @@ module _ (bytes : List ℕ) where
 
   pub held_at : (es : List Entry) (i : ℕ) (e : Entry) (d : Text × Template) → i < length es → e ≡ get_or es i e → get_or (held bytes es) i d ≡ (name_of e.name, template_of bytes e)
   held_at [] i e d h is = absurd (omega arith)
-  held_at (x ∷ es) ℕ.zero e d h is = ap (λ (y : Entry). (name_of y.name, template_of bytes y)) (sym is)
+  held_at (x ∷ es) ℕ.zero e d h is = cc
   held_at (x ∷ es) (suc i) e d h is = held_at es i e d (omega arith) is
 
   module _ (name : Text) where
@@ -38,21 +33,15 @@ module _ (bytes : List ℕ) where
 
     find_past : (es : List Entry) (rest : Templates) → named name es ≡ false → find (held bytes es ++ rest) name ≡ find rest name
     find_past [] rest e = refl
-    find_past (x ∷ es) rest e =
-        let parts = or_parts (same_text name (name_of x.name)) (named name es) e in
-        cond-false (same_text name (name_of x.name)) _ _ parts.0 ∙ find_past es rest parts.1
+    find_past (x ∷ es) rest e = let past = find_past es rest in grind (arith, common_steps)
 
     put_past : (t : Template) (es : List Entry) (rest : Templates) → named name es ≡ false → put name t (held bytes es ++ rest) ≡ held bytes es ++ put name t rest
     put_past t [] rest e = refl
-    put_past t (x ∷ es) rest e =
-        let parts = or_parts (same_text name (name_of x.name)) (named name es) e in
-        cond-false (same_text name (name_of x.name)) _ _ parts.0 ∙ ap (λ (ts : Templates). one x ∷ ts) (put_past t es rest parts.1)
+    put_past t (x ∷ es) rest e = let past = put_past t es rest in grind (arith, common_steps)
 
     without_past : (es : List Entry) (rest : Templates) → named name es ≡ false → without name (held bytes es ++ rest) ≡ held bytes es ++ without name rest
     without_past [] rest e = refl
-    without_past (x ∷ es) rest e =
-        let parts = or_parts (same_text name (name_of x.name)) (named name es) e in
-        cond-false (same_text name (name_of x.name)) _ _ parts.0 ∙ ap (λ (ts : Templates). one x ∷ ts) (without_past es rest parts.1)
+    without_past (x ∷ es) rest e = let past = without_past es rest in grind (arith, common_steps)
 
     pub find_none : (es : List Entry) → named name es ≡ false → find (held bytes es) name ≡ none
     find_none es e = ap (λ (ts : Templates). find ts name) (sym (append-nil (held bytes es))) ∙ find_past es [] e

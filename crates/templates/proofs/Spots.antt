@@ -1,6 +1,7 @@
 -- Entries that lie apart, and the table after one was set or put last.
 use Rattle.std.proofs.Common.{◌≡◌, ℕ, suc, ◌+◌, ◌-◌, ◌<◌, ◌≤◌, max, List, [], ◌∷◌, ◌++◌, length, get_or, take, drop, set, sym, refl, ap, ◌∙◌, ap₂, arith, drop-cons}
 use lib.Seq.{take-append-add}
+use Rattle.std.proofs.lemmas.Grind.{common_steps}
 use Rattle.std.proofs.lemmas.List.{take-append-drop, take-take, set_split, length-take-le}
 use Rattle.std.proofs.lemmas.Slice.{between_is}
 use Rattle.std.proofs.lemmas.Bool.{eq-eqb}
@@ -13,8 +14,7 @@ times_append p (a ∷ xs) ys = omega (arith, times_append p xs ys)
 
 -- a list around one of its elements
 pub around : (es : List Entry) (at : ℕ) (e : Entry) → at < length es → e ≡ get_or es at e → es ≡ take at es ++ (e ∷ drop (suc at) es)
-around es at e h is =
-    sym (take-append-drop at es) ∙ ap (λ (x : List Entry). take at es ++ x) (drop-cons es at e h ∙ ap (λ (x : Entry). x ∷ drop (suc at) es) (sym is))
+around es at e h is = grind (arith, common_steps, drop-cons)
 
 module _ (es : List Entry) (at : ℕ) (e : Entry) (h : at < length es) (is : e ≡ get_or es at e) where
   times_around : (p : ℕ) → times p es ≡ times p (take at es) + (lies p e + times p (drop (suc at) es))

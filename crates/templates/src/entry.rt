@@ -4,7 +4,15 @@ ghost use Rattle.std.specs.Prelude.{◌<◌, ◌≤◌};
 
 use meaning::name::Name;
 
-/// The template's bytes and instructions stand at its place of the memory; an entry that is not in use holds a free place.
+/// How many bytes lie at a place, and how many of them before the tree.
+pub(crate) const PLACE_BYTES: usize = 16384;
+
+pub(crate) const SOURCE_BYTES: usize = 8192;
+
+/// How many instructions lie at a place.
+pub(crate) const PLACE_INSTRS: usize = 1024;
+
+/// The template's bytes and instructions stand at its place of the memory, which has a fixed size, so that an entry says how long they are; an entry that is not in use holds a free place.
 #[derive(Clone, Copy)]
 pub struct Entry {
     pub(crate) name: Name,

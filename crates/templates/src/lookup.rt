@@ -18,12 +18,7 @@ fn has_name(entry: &Entry, name: &[u8]) -> bool
 pub(crate) fn index_of(entries: &[Entry], name: &[u8]) -> Option<usize>
     ensures { Located name.now entries.now result }
 {
-    for (at, entry) in entries.iter().enumerate() {
-        if has_name(entry, name) {
-            return Some(at);
-        }
-    }
-    None
+    entries.iter().position(|entry| has_name(entry, name))
 }
 
 /// Puts the entry at `at` behind the others up to `end`.

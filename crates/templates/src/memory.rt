@@ -8,12 +8,14 @@ ghost use Rattle.program.specs.Program as program;
 ghost use Rattle.checker.specs.Templates.{source_of, tree_of};
 ghost use Rattle.templates.specs.Writing.{Counted, Programmed, written};
 
+use crate::entry::PLACE_INSTRS;
 use checker::template::Template;
 use compiler::instr::Instr;
 use compiler::programs::{CompileError, compile};
 use meaning::fault::Fault;
 
 /// Writes the piece over what stands from `at` on.
+#[tactic(auto, using(crate::proofs::Written::written_part, crate::proofs::Written::length_written))]
 pub(crate) fn write_bytes(memory: &mut Vec<u8>, at: usize, piece: &[u8])
     requires { at + length piece.now ≤ vec_len memory.old }
     ensures items { memory.new.items ≡ written memory.old.items at piece.now }
@@ -30,8 +32,7 @@ pub(crate) fn check_program(template: &Template) -> Result<(), Fault>
     // an empty slice takes nothing, and the instructions are counted all the same
     let mut nothing: [Instr; 0] = [];
     match compile(template, &mut nothing) {
-        Ok(_) => Ok(()),
-        Err(CompileError::Short(_)) => Ok(()),
+        Ok(_) | Err(CompileError::Short(_)) => Ok(()),
         Err(CompileError::Fault(fault)) => Err(fault),
     }
 }
@@ -43,8 +44,5 @@ pub(crate) fn write_program(template: &Template, memory: &mut Vec<Instr>, at: us
     ensures program { (scope : Scope) → unpack (source_of template.now) (tree_of template.now) ≡ gives scope → Programmed (tree_of template.now) (program.compile scope) at result memory.old.items memory.new.items }
     ensures len { vec_len memory.new ≡ vec_len memory.old }
 {
-    match compile(template, &mut memory.as_mut_slice()[at..at + 1024]) {
-        Ok(count) => count,
-        Err(_) => unreachable(),
-    }
+    compile(template, &mut memory.as_mut_slice()[at..at + PLACE_INSTRS]).unwrap()
 }

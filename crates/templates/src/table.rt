@@ -9,6 +9,7 @@ use compiler::instr::Instr;
 pub mod reading;
 
 /// At most 16 templates under their names. Those in use come first, in the order in which their names were added.
+// No heap; and the entries behind `count` hold the free places, which a list of those in use alone would lose.
 #[derive(Drop)]
 pub struct Templates {
     bytes: Vec<u8>,

@@ -20,10 +20,6 @@ less_precedes [] (b ∷ t) = refl
 less_precedes (a ∷ s) [] = refl
 less_precedes (a ∷ s) (b ∷ t) = by_first (ltb a b) (eqb a b) (slice_cmp nat_cmp s t) (precedes s t) (less_precedes s t)
 
--- what comparing two slices says
-pub compared : (a b : List ℕ) (o : Ordering) {answer : Ordering} → o ≡ slice_cmp nat_cmp a b → o ≡ answer → is_lt answer ≡ precedes a b
-compared a b o says is = ap is_lt (sym is ∙ says) ∙ less_precedes a b
-
 pub text_long : (t : List ℕ) → length t ≤ length (pack_text t)
 unfolding pack_text
 text_long t = omega (arith, length-append (little_endian 2 (length t)) t)

@@ -1,3 +1,4 @@
+pub mod Exits
 pub mod Keys
 pub mod Sums
 pub mod Plains

@@ -1,12 +1,12 @@
 -- What was read and what it costs, and that charges add up.
-use Rattle.std.proofs.Common.{◌≡◌, ℕ, ◌+◌, List, sym, refl, ap, ◌∙◌, arith}
+use Rattle.std.proofs.Common.{◌≡◌, ℕ, ◌+◌, ◌<◌, ◌≤◌, List, sym, refl, ap, ◌∙◌, arith}
 use Rattle.meaning.specs.Charge.{Charge, ◌⊕◌, free, one_cell}
 use Rattle.meaning.specs.Or.{fails, gives}
 use Rattle.meaning.specs.declared.fault.Cause.{Cause}
 use Rattle.packing.specs.Reader.{Outcome, read, refused}
 use Rattle.packing.proofs.Readers.{finish, never_read}
 use Rattle.values.specs.Costs.{charge_of, with_part}
-use Rattle.values.specs.Measures.{weigh}
+use Rattle.values.specs.Measures.{Ends, weigh}
 use Rattle.values.specs.declared.cost.Cost.{Cost}
 
 -- CHARGES
@@ -28,6 +28,14 @@ pub part_charged : (whole part sum : Cost) (key : ℕ) (charge : Charge) → sum
 part_charged whole part sum key charge is costs =
     rw is (same_charge {b = whole.bytes + part.bytes + key} (omega arith) (omega arith))
     ∙ ap (λ (c : Charge). charge_of whole ⊕ (c ⊕ record { cells = 1; bytes = key })) costs
+
+-- one part more, whose bytes of the key stand before it
+pub part_ends : {bytes : List ℕ} {pos next at end : ℕ} {whole part sum : Cost} (key : ℕ) → Ends bytes pos whole next → next + key ≤ at → Ends bytes at part end → at + part.parts < end → sum ≡ with_part whole part key → Ends bytes pos sum end
+part_ends key so_far ahead here more is =
+    let values = ap (λ (c : Cost). c.values) is in
+    let parts = ap (λ (c : Cost). c.parts) is in
+    let text = ap (λ (c : Cost). c.bytes) is in
+    record { inside = here.inside; values = omega arith; parts = omega arith; text = omega arith }
 
 -- the value around its parts
 abbrev pub with_value : Cost → Cost

@@ -35,10 +35,8 @@ impl Cost {
         };
         match value {
             PlainValue::Nothing => Cost::NOTHING,
-            PlainValue::False => cell,
-            PlainValue::True => cell,
-            PlainValue::Integer(_) => cell,
-            PlainValue::Float(_) => cell,
+            PlainValue::False | PlainValue::True | PlainValue::Integer(_) | PlainValue::Float(_) =>
+                cell,
             PlainValue::String(text) => Cost {
                 bytes: text.len(),
                 ..cell

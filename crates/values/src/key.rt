@@ -6,17 +6,12 @@ ghost use Rattle.reader.specs.Fields.{Takes, now_of};
 ghost use Rattle.values.specs.Keys.{KeyWithin, key_before, rising_key};
 
 use reader::field::read_text;
-use std::cmp::Ordering;
 
 /// Whether the bytes of one key come before those of another.
 pub fn is_before(a: &[u8], b: &[u8]) -> bool
     ensures { result ≡ precedes a.now b.now }
 {
-    match a.cmp(&b) {
-        Ordering::Less => true,
-        Ordering::Equal => false,
-        Ordering::Greater => false,
-    }
+    a < b
 }
 
 /// A key, which has to come after the key before it.
@@ -30,13 +25,7 @@ pub(crate) fn read_key<'a>(
 {
     let (key, next) = read_text(bytes, pos)?;
     match before {
-        None => Some((key, next)),
-        Some(lower) => {
-            if is_before(lower, key) {
-                Some((key, next))
-            } else {
-                None
-            }
-        }
+        Some(lower) if !is_before(lower, key) => None,
+        _ => Some((key, next)),
     }
 }

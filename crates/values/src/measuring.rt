@@ -1,5 +1,6 @@
 //! The measure: goes through a packed value from left to right, and adds up what it costs, or answers
-//! the first fault that it meets. What is measured in place answers its cost and the position after it.
+//! the first fault that it meets. What is measured in place answers its cost and the position after it. Positions
+//! stand beside the bytes, as in the reader: a fault keeps that of its value, or of the map whose key it lies in.
 
 ghost use Rattle.std.specs.Prelude.{◌≡◌, ◌-◌, ◌<◌, ◌≤◌, true, false, length, drop, Err};
 ghost use Rattle.meaning.specs.Charge.{cost, cost_entries, cost_items};
@@ -27,9 +28,7 @@ fn measure_plain(bytes: &[u8], pos: usize, levels: usize) -> Result<(Cost, usize
     ensures same { heard charge_of bytes.now result ≡ weigh cost (plain_within levels (drop pos bytes.now)) }
     ensures moves { ValueMoves bytes.now pos result }
 {
-    let Some((value, next)) = plain_value(bytes, pos) else {
-        return Err(Refusal::Malformed(pos));
-    };
+    let (value, next) = plain_value(bytes, pos).ok_or(Refusal::Malformed(pos))?;
     if levels == 0 {
         return Err(Refusal::TooDeep(pos));
     }
@@ -58,9 +57,7 @@ fn measure_value(bytes: &[u8], pos: usize, levels: usize) -> Result<(Cost, usize
     ensures same { heard charge_of bytes.now result ≡ weigh cost (value_within levels (drop pos bytes.now)) }
     ensures moves { ValueMoves bytes.now pos result }
 {
-    let Some((byte, next)) = read_byte(bytes, pos) else {
-        return Err(Refusal::Malformed(pos));
-    };
+    let (byte, next) = read_byte(bytes, pos).ok_or(Refusal::Malformed(pos))?;
     match byte {
         0x26 => measure_list(bytes, pos, next, levels),
         0x27 => measure_map(bytes, pos, next, levels),
@@ -80,9 +77,7 @@ fn measure_list(
     ensures same { heard charge_of bytes.now result ≡ weigh cost (rest_within levels (length bytes.now - start) list_byte (drop pos bytes.now)) }
     ensures moves { ValueMoves bytes.now start result }
 {
-    let Some((count, next)) = read_u16(bytes, pos) else {
-        return Err(Refusal::Malformed(start));
-    };
+    let (count, next) = read_u16(bytes, pos).ok_or(Refusal::Malformed(start))?;
     if levels == 0 {
         return Err(Refusal::TooDeep(start));
     }
@@ -113,7 +108,8 @@ fn measure_items(
     Ok((cost, next))
 }
 
-/// The map at `start`, whose count stands at `pos`.
+/// The map at `start`, whose count stands at `pos`. Lists and maps are measured apart, since their parts are read and
+/// refused otherwise.
 #[cycle(parts)]
 fn measure_map(
     bytes: &[u8],
@@ -125,9 +121,7 @@ fn measure_map(
     ensures same { heard charge_of bytes.now result ≡ weigh cost (rest_within levels (length bytes.now - start) map_byte (drop pos bytes.now)) }
     ensures moves { ValueMoves bytes.now start result }
 {
-    let Some((count, next)) = read_u16(bytes, pos) else {
-        return Err(Refusal::Malformed(start));
-    };
+    let (count, next) = read_u16(bytes, pos).ok_or(Refusal::Malformed(start))?;
     if levels == 0 {
         return Err(refuse_map(bytes, start, next, count));
     }
@@ -153,9 +147,7 @@ fn measure_entries(
     let mut next = pos;
     let mut before = None;
     for _entry in 0..count {
-        let Some((key, value)) = read_key(bytes, next, before) else {
-            return Err(Refusal::Malformed(start));
-        };
+        let (key, value) = read_key(bytes, next, before).ok_or(Refusal::Malformed(start))?;
         let (part, end) = measure_value(bytes, value, levels)?;
         cost = cost.with_part(part, key.len());
         next = end;
@@ -180,8 +172,5 @@ fn measure_whole(bytes: &[u8]) -> Result<Cost, Refusal>
 pub fn measure(bytes: &[u8]) -> Result<Cost, Fault>
     ensures { answered result ≡ priced (unpack_value bytes.now) }
 {
-    match measure_whole(bytes) {
-        Ok(cost) => Ok(cost),
-        Err(refusal) => Err(refusal.as_fault()),
-    }
+    Ok(measure_whole(bytes)?)
 }

@@ -1,8 +1,8 @@
 //! The tally of a store: the view begins at one, and is put back to a height that it had.
 
-ghost use Rattle.std.specs.Prelude.{◌≡◌, ◌≤◌, length, take};
-ghost use Rattle.store.specs.Cells.{Sound};
+ghost use Rattle.std.specs.Prelude.{◌≡◌};
 ghost use Rattle.store.specs.Stores.{Freed, Height, charged};
+ghost use Rattle.store.specs.Supplied.{Supplied};
 
 use super::{Store, Tally};
 use crate::cell::Cell;
@@ -15,9 +15,7 @@ impl Tally {
 impl<'m> Store<'m> {
     /// The store in that memory, of which so much is in use already.
     pub fn new(cells: &'m mut [Cell], text: &'m mut [u8], tally: &'m mut Tally) -> Store<'m>
-        requires sound { Sound (take tally.old.bytes text.old) (take tally.old.cells cells.old) }
-        requires cells_fit { (tally.old.cells ≤ length cells.old) × (tally.old.cells ≤ 65535) }
-        requires bytes_fit { (tally.old.bytes ≤ length text.old) × (tally.old.bytes ≤ 65535) }
+        requires { Supplied cells.old text.old tally.old }
         ensures cells { (result.cells.ghost_name ≡ cells.entry.ghost_name) × (result.cells.now ≡ cells.old) }
         ensures text { (result.text.ghost_name ≡ text.entry.ghost_name) × (result.text.now ≡ text.old) }
         ensures tally { (result.tally.ghost_name ≡ tally.entry.ghost_name) × (result.tally.now ≡ tally.old) }

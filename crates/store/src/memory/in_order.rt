@@ -12,6 +12,7 @@ use values::key::is_before;
 
 impl Store<'_> {
     /// The entry of a map with that number in the order of keys, counted from 0.
+    #[tactic(auto, using(crate::proofs::Ordered::first_at, crate::proofs::Ordered::past_at))]
     pub fn entry(&self, r: Ref, number: usize) -> Option<Entry>
         requires { Known self.now r }
         ensures same { shown self.now result ≡ entry_at (value self.now r) number }
@@ -25,6 +26,7 @@ impl Store<'_> {
     }
 
     /// The first entry of a map whose key is above `after`, or the first of all.
+    #[tactic(auto, using(crate::proofs::Lists::next_hit, crate::proofs::Lists::next_miss))]
     fn next_entry(&self, r: Ref, after: Option<TextSpan>) -> Option<Entry>
         requires map_known { Known self.now r }
         requires after_known { BoundKnown self.now after }

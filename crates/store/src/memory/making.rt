@@ -5,7 +5,7 @@ ghost use Rattle.meaning.specs.Charge.{◌⊕◌, cell_and_text, cost, one_cell,
 ghost use Rattle.meaning.specs.Value.{Value, boolean, float, integer, list as the_list, map as the_map, no_entries, no_items, none, string};
 ghost use Rattle.store.specs.Cells.{at_span, fits, of_cell};
 ghost use Rattle.store.specs.Kinds.{kind_of};
-ghost use Rattle.store.specs.Stores.{Added, KeyKnown, Known, Made, supply, text_of, used, value, values_of};
+ghost use Rattle.store.specs.Stores.{Added, KeyKnown, Known, Made, Placed, supply, text_of, used, value, values_of};
 ghost use Rattle.store.specs.Values.{has_entries, inserted, pushed};
 
 use super::{Full, Store, Tally};
@@ -16,12 +16,19 @@ use crate::kinds::Kind;
 const MOST: usize = 65_535;
 
 impl Store<'_> {
-    /// Whether the supply holds one cell more, and so many bytes.
-    fn has_room(&self, bytes: &[u8]) -> bool
-        ensures { result ≡ within (supply self.now) (used self.now ⊕ cell_and_text bytes.now) }
+    /// Where the next bytes will lie, if the supply holds them and one cell more.
+    fn next_span(&self, bytes: &[u8]) -> Result<TextSpan, Full>
+        ensures { Placed self.now bytes.now result }
     {
-        self.tally.cells < self.cells.len().min(MOST)
-            && bytes.len() <= self.text.len().min(MOST) - self.tally.bytes
+        let has_room = self.tally.cells < self.cells.len().min(MOST)
+            && bytes.len() <= self.text.len().min(MOST) - self.tally.bytes;
+        if !has_room {
+            return Err(Full);
+        }
+        Ok(TextSpan {
+            start: self.tally.bytes as u16,
+            len: bytes.len() as u16,
+        })
     }
 
     /// Puts one cell and its bytes on top.
@@ -48,12 +55,11 @@ impl Store<'_> {
         requires { fits (text_of self.old) (used self.old).cells (values_of self.old) cell ≡ true }
         ensures { Made self.old self.new one_cell (of_cell (text_of self.old) (values_of self.old) cell) result }
     {
-        if self.has_room(&[]) {
-            Ok(self.add(cell, &[]))
-        } else {
-            Err(Full)
-        }
+        self.next_span(&[])?;
+        Ok(self.add(cell, &[]))
     }
+
+    // The next three have only their cell's kind of their own; what they share is `make`.
 
     pub fn make_boolean(&mut self, b: bool) -> Result<Ref, Full>
         ensures { Made self.old self.new (cost (boolean b)) (boolean b) result }
@@ -74,15 +80,12 @@ impl Store<'_> {
         self.make(Cell::Float(bits))
     }
 
+    #[tactic(auto, using(crate::proofs::Cells::top_span))]
     pub fn make_string(&mut self, bytes: &[u8]) -> Result<Ref, Full>
         ensures { Made self.old self.new (cost (string bytes.now)) (string bytes.now) result }
     {
-        if self.has_room(bytes) {
-            let span = self.next_span(bytes);
-            Ok(self.add(Cell::String(span), bytes))
-        } else {
-            Err(Full)
-        }
+        let span = self.next_span(bytes)?;
+        Ok(self.add(Cell::String(span), bytes))
     }
 
     /// A string whose bytes lie in the store's text already, as those of a key do: it shares them.
@@ -93,17 +96,6 @@ impl Store<'_> {
         self.make(Cell::String(text))
     }
 
-    /// Where the next bytes will lie.
-    fn next_span(&self, bytes: &[u8]) -> TextSpan
-        requires { within (supply self.now) (used self.now ⊕ cell_and_text bytes.now) ≡ true }
-        ensures { (result.start ≡ (used self.now).bytes) × (result.len ≡ length bytes.now) }
-    {
-        TextSpan {
-            start: self.tally.bytes as u16,
-            len: bytes.len() as u16,
-        }
-    }
-
     pub fn empty_list(&mut self) -> Result<Ref, Full>
         ensures { Made self.old self.new one_cell (the_list no_items) result }
     {
@@ -111,6 +103,7 @@ impl Store<'_> {
     }
 
     /// The list with one more part at its end.
+    #[tactic(auto, using(crate::proofs::Lists::pushed_counts))]
     pub fn push(&mut self, list: Ref, part: Ref) -> Result<Ref, Full>
         requires list_known { Known self.old list }
         requires is_list { kind_of (value self.old list) ≡ Kind.List }
@@ -134,6 +127,7 @@ impl Store<'_> {
     }
 
     /// How many entries the map in a cell has once the key is in it.
+    #[tactic(auto, using(crate::proofs::Stores::counts_with))]
     fn size_with(&self, front: u16, key: &[u8]) -> u16
         requires low { front < (used self.now).cells }
         requires is_map { kind_of (slice_index_or (values_of self.now) front none) ≡ Kind.Map }
@@ -148,6 +142,7 @@ impl Store<'_> {
     }
 
     /// The map in which that part stands under the key.
+    #[tactic(auto, using(crate::proofs::Cells::top_span, crate::proofs::Stores::text_count, crate::proofs::Stores::added_as))]
     pub fn insert(&mut self, map: Ref, key: &[u8], part: Ref) -> Result<Ref, Full>
         requires map_known { Known self.old map }
         requires is_map { kind_of (value self.old map) ≡ Kind.Map }
@@ -155,11 +150,8 @@ impl Store<'_> {
         ensures { Made self.old self.new (cell_and_text key.now) (inserted (value self.old map) key.now (value self.old part)) result }
     {
         let Ref::At(front) = map else { unreachable() };
-        if !self.has_room(key) {
-            return Err(Full);
-        }
+        let span = self.next_span(key)?;
         let len = self.size_with(front, key);
-        let span = self.next_span(key);
         let cell = Cell::Insert {
             front,
             key: span,

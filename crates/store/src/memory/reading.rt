@@ -6,18 +6,18 @@ ghost use Rattle.meaning.specs.Parts.{truth};
 ghost use Rattle.store.specs.Cells.{at_span};
 ghost use Rattle.store.specs.Kinds.{kind_of, size_of};
 ghost use Rattle.store.specs.Shown.{Shows};
-ghost use Rattle.store.specs.Stores.{Found, KeyKnown, Known, text_of, used, value, values_of};
+ghost use Rattle.store.specs.Stores.{Found, KeyKnown, Known, ShownIn, text_of, used, value, values_of};
 ghost use Rattle.store.specs.Values.{entry_in, part_of};
 
 use super::Store;
 use crate::cell::{Cell, Ref, TextSpan};
 use crate::kinds::Kind;
-use crate::text::is_same;
 
 /// The bits of negative zero.
 const NEGATIVE_ZERO: u64 = 0x8000_0000_0000_0000;
 
 impl Store<'_> {
+    #[tactic(auto, using(crate::proofs::Stores::memory_shows))]
     pub(super) fn cell(&self, at: u16) -> Cell
         requires { at < (used self.now).cells }
         ensures { Shows (text_of self.now) at (values_of self.now) (slice_index_or (values_of self.now) at none) result }
@@ -25,7 +25,19 @@ impl Store<'_> {
         self.cells[at as usize]
     }
 
+    /// The cell that a reference names, if any.
+    fn cell_of(&self, r: Ref) -> Option<Cell>
+        requires { Known self.now r }
+        ensures { ShownIn self.now r result }
+    {
+        match r {
+            Ref::None => None,
+            Ref::At(at) => Some(self.cell(at)),
+        }
+    }
+
     /// How many bytes, parts or entries the value in a cell has.
+    #[tactic(auto, using(crate::proofs::Lists::push_size))]
     pub(super) fn size_at(&self, at: u16) -> u16
         requires { at < (used self.now).cells }
         ensures same { result ≡ size_of (slice_index_or (values_of self.now) at none) }
@@ -34,8 +46,7 @@ impl Store<'_> {
     {
         match self.cell(at) {
             Cell::String(span) => span.len,
-            Cell::Push { len, .. } => len,
-            Cell::Insert { len, .. } => len,
+            Cell::Push { len, .. } | Cell::Insert { len, .. } => len,
             _ => 0,
         }
     }
@@ -55,45 +66,43 @@ impl Store<'_> {
         requires { Known self.now r }
         ensures { result ≡ kind_of (value self.now r) }
     {
-        match r {
-            Ref::None => Kind::None,
-            Ref::At(at) => match self.cell(at) {
-                Cell::Boolean(_) => Kind::Boolean,
-                Cell::Integer(_) => Kind::Integer,
-                Cell::Float(_) => Kind::Float,
-                Cell::String(_) => Kind::String,
-                Cell::EmptyList | Cell::Push { .. } => Kind::List,
-                Cell::EmptyMap | Cell::Insert { .. } => Kind::Map,
-            },
+        match self.cell_of(r) {
+            None => Kind::None,
+            Some(Cell::Boolean(_)) => Kind::Boolean,
+            Some(Cell::Integer(_)) => Kind::Integer,
+            Some(Cell::Float(_)) => Kind::Float,
+            Some(Cell::String(_)) => Kind::String,
+            Some(Cell::EmptyList | Cell::Push { .. }) => Kind::List,
+            Some(Cell::EmptyMap | Cell::Insert { .. }) => Kind::Map,
         }
     }
 
     /// False are none, false, 0, both float zeros, and an empty string, list or map.
+    #[tactic(auto, using(crate::proofs::Lists::push_true, crate::proofs::Lists::insert_true))]
     pub fn truth(&self, r: Ref) -> bool
         requires { Known self.now r }
         ensures { result ≡ truth (value self.now r) }
     {
-        match r {
-            Ref::None => false,
-            Ref::At(at) => match self.cell(at) {
-                Cell::Boolean(b) => b,
-                Cell::Integer(n) => n != 0,
-                Cell::Float(bits) => bits != 0 && bits != NEGATIVE_ZERO,
-                Cell::String(span) => span.len != 0,
-                Cell::EmptyList | Cell::EmptyMap => false,
-                Cell::Push { .. } => true,
-                Cell::Insert { .. } => true,
-            },
+        match self.cell_of(r) {
+            None => false,
+            Some(Cell::Boolean(b)) => b,
+            Some(Cell::Integer(n)) => n != 0,
+            Some(Cell::Float(bits)) => bits != 0 && bits != NEGATIVE_ZERO,
+            Some(Cell::String(span)) => span.len != 0,
+            Some(Cell::EmptyList | Cell::EmptyMap) => false,
+            Some(Cell::Push { .. } | Cell::Insert { .. }) => true,
         }
     }
+
+    // Each of the next four names one kind of cell and hands out what it holds: one function for all of them would
+    // need that kind as a parameter, and be longer than the four.
 
     pub fn boolean(&self, r: Ref) -> bool
         requires known { Known self.now r }
         requires is_boolean { kind_of (value self.now r) ≡ Kind.Boolean }
         ensures { value self.now r ≡ boolean result }
     {
-        let Ref::At(at) = r else { unreachable() };
-        let Cell::Boolean(b) = self.cell(at) else {
+        let Some(Cell::Boolean(b)) = self.cell_of(r) else {
             unreachable()
         };
         b
@@ -104,8 +113,7 @@ impl Store<'_> {
         requires is_integer { kind_of (value self.now r) ≡ Kind.Integer }
         ensures { value self.now r ≡ the_integer result }
     {
-        let Ref::At(at) = r else { unreachable() };
-        let Cell::Integer(n) = self.cell(at) else {
+        let Some(Cell::Integer(n)) = self.cell_of(r) else {
             unreachable()
         };
         n
@@ -117,14 +125,14 @@ impl Store<'_> {
         requires is_float { kind_of (value self.now r) ≡ Kind.Float }
         ensures { value self.now r ≡ the_float result }
     {
-        let Ref::At(at) = r else { unreachable() };
-        let Cell::Float(bits) = self.cell(at) else {
+        let Some(Cell::Float(bits)) = self.cell_of(r) else {
             unreachable()
         };
         bits
     }
 
     /// The bytes of a span, as of an entry's key.
+    #[tactic(auto, using(crate::proofs::Cells::span_under))]
     pub fn text_at(&self, span: TextSpan) -> &[u8]
         requires { KeyKnown self.now span }
         ensures { result.now ≡ at_span (text_of self.now) span }
@@ -139,14 +147,14 @@ impl Store<'_> {
         requires is_string { kind_of (value self.now r) ≡ Kind.String }
         ensures { value self.now r ≡ string result.now }
     {
-        let Ref::At(at) = r else { unreachable() };
-        let Cell::String(span) = self.cell(at) else {
+        let Some(Cell::String(span)) = self.cell_of(r) else {
             unreachable()
         };
         self.text_at(span)
     }
 
     /// The part of a list with that number, counted from 0.
+    #[tactic(auto, using(crate::proofs::Lists::push_past, crate::proofs::Lists::push_top, crate::proofs::Lists::push_low))]
     pub fn part(&self, r: Ref, number: usize) -> Option<Ref>
         requires { Known self.now r }
         ensures { Found self.now (part_of (value self.now r) number) result }
@@ -173,6 +181,7 @@ impl Store<'_> {
     }
 
     /// The value under a key of a map: the newest entry with that key counts.
+    #[tactic(auto, using(crate::proofs::Lists::insert_hit, crate::proofs::Lists::insert_miss))]
     pub fn value_of(&self, r: Ref, key: &[u8]) -> Option<Ref>
         requires { Known self.now r }
         ensures { Found self.now (entry_in (value self.now r) key.now) result }
@@ -187,7 +196,7 @@ impl Store<'_> {
             ..
         } = self.cell(here)
         {
-            if is_same(key, self.text_at(newest)) {
+            if key == self.text_at(newest) {
                 return Some(part);
             }
             here = front;

@@ -1,11 +1,11 @@
-use Rattle.std.proofs.Common.{◌≡◌, ◌-◌, ◌≤◌, length, drop, vec_items}
+use Rattle.std.proofs.Common.{◌≡◌, length, vec_items}
 use Rattle.job.specs.Words.{hex}
 use Rattle.job.proofs.Wording.{behind}
 use Rattle.job.proofs.word.read_hex.Given as goal
 
 -- the digits still to come give the whole
-abbrev pub invariant-loop-at : goal.invariant-loop-at
-invariant-loop-at l = (l.at ≤ length l.line) × (behind (vec_items l.bytes) (hex (drop l.at l.line)) ≡ hex (drop l.initial.at l.line))
+abbrev pub invariant-loop-bytes : goal.invariant-loop-bytes
+invariant-loop-bytes l = behind (vec_items l.bytes) (hex l.rest) ≡ hex l.line
 
-abbrev pub decreases-loop-at : goal.decreases-loop-at
-decreases-loop-at l = length l.line - l.at
+abbrev pub decreases-loop-bytes : goal.decreases-loop-bytes
+decreases-loop-bytes l = length l.rest

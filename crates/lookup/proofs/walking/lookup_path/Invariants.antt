@@ -9,7 +9,4 @@ use Rattle.lookup.proofs.walking.lookup_path.Given as goal
 abbrev pub invariant-loop-member : goal.invariant-loop-member
 invariant-loop-member l =
     Known l.store l.here
-    × (walk (ask l.source) (value l.store l.here) (members_of l.left) ≡ walk (ask l.source) (value l.store l.initial.here) (members_of l.initial.left))
-
-abbrev pub decreases-loop-member : goal.decreases-loop-member
-decreases-loop-member l = l.left.count
+    × (walk (ask l.source) (value l.store l.here) (members_of l.member-iterator) ≡ walk (ask l.source) (value l.store l.initial.here) (members_of l.path))

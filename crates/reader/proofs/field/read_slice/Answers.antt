@@ -1,17 +1,8 @@
-use Rattle.std.proofs.Common.{arith, length-drop, length-take}
-use Rattle.reader.proofs.Readings.{slice_here, no_slice}
+use Rattle.std.proofs.Common.{◌-◌, length, drop, arith, length-take, length-drop}
+use Rattle.reader.proofs.Readings.{no_part}
 use Rattle.reader.proofs.field.read_slice.Goals as goal
 
-pub returns-then-size-tree : goal.returns-then-size-tree
-returns-then-size-tree c = record {
-  same = λ at. slice_here c.args.tree.now c.args.pos c.args.size at c.if-size-tree.true;
-  moves = (omega arith, omega arith);
-  long = simp (length-take, length-drop) (omega arith);
-}
-
-pub returns-else-size-tree : goal.returns-else-size-tree
-returns-else-size-tree c = record {
-  same = λ at. no_slice c.args.tree.now c.args.pos c.args.size at c.if-size-tree.false;
-  moves = tt;
-  long = tt;
-}
+pub returns-in_err-part-clause-same : goal.returns-in_err-part-clause-same
+returns-in_err-part-clause-same c = λ at.
+    let left = c.in_err-part.ensures.lookup in
+    rw c.from_residual.ensures (no_part c.args.tree.now c.args.pos c.args.size at (length c.args.tree.now - c.args.pos) (omega arith) (omega (arith, left, length-take (length c.args.tree.now - c.args.pos) (drop c.args.pos c.args.tree.now), length-drop c.args.pos c.args.tree.now)))

@@ -1,11 +1,12 @@
-use Rattle.std.proofs.Common.{sym}
-use Rattle.packing.specs.Rfc3629.{well_formed}
+use Rattle.std.proofs.Common.{◌≡◌, ◌↔◌, Bool, true, Ok, Err, Result, MatchResult, sym, ◌∙◌}
+use Rattle.std.specs.Result.{is_ok}
 use Rattle.packing.proofs.Grammar.{grammar_is_std}
 use Rattle.reader.proofs.Texts.{not_true}
 use Rattle.reader.proofs.text.is_text.Goals as goal
 
-pub returns-in-Ok : goal.returns-in-Ok
-returns-in-Ok c = sym ((grammar_is_std c.args.bytes.now).1 c.in-Ok.ensures.cases.1)
+decides : {A E P : Type 0} (r : Result A E) (Q : A → Type 0) (R : E → Type 0) (b : Bool) → ((b ≡ true) ↔ P) → MatchResult r (λ a. Q a × P) (λ e. (P → ⊥) × R e) → is_ok r ≡ b
+decides (Ok a) Q R b same told = sym (same.1 told.1)
+decides (Err e) Q R b same told = sym (not_true b (λ t. told.0 (same.0 t)))
 
-pub returns-in-Err : goal.returns-in-Err
-returns-in-Err c = sym (not_true (well_formed c.args.bytes.now) (λ e. c.in-Err.ensures.cases.0 ((grammar_is_std c.args.bytes.now).0 e)))
+pub returns : goal.returns
+returns c = c.is_ok.ensures.value ∙ decides c.from_utf8.result _ _ _ (grammar_is_std c.args.bytes.now) c.from_utf8.ensures.cases

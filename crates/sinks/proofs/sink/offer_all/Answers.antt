@@ -2,15 +2,8 @@ use Rattle.std.proofs.Common.{map, ◌∙◌}
 use Rattle.std.proofs.lemmas.List.{at_drop_all}
 use Rattle.std.proofs.lemmas.Result.{err_from_is_err_and}
 use Rattle.sinks.specs.Offered.{in_order}
-use Rattle.sinks.proofs.Turns.{turn_taken, turn_stopped, told, told_stop}
+use Rattle.sinks.proofs.Turns.{turn_stopped, told, told_stop}
 use Rattle.sinks.proofs.sink.offer_all.Goals as goal
-
-pub loop-piece-preserved : goal.loop-piece-preserved
-loop-piece-preserved g c =
-    let s = g.S.Sink in
-    c.loop-piece.invariant
-    ∙ turn_taken s.sink (s.state c.loop-piece.sink) (s.state c.offer.new.self) c.args.pieces.now c.loop-piece.piece-index _
-    c.loop-piece-test.true c.in_ok-offer.ensures
 
 pub returns-in_err-offer : goal.returns-in_err-offer
 returns-in_err-offer g c =

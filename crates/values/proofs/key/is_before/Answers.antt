@@ -1,20 +1,11 @@
-use Rattle.values.proofs.Keys.{compared}
+use Rattle.std.proofs.Common.{ap, refl, is_lt, ◌∙◌}
+use Rattle.std.specs.Cmp.Lexicographic.{lists_agrees}
+use Rattle.std.specs.Ordering.{is_some_and}
+use Rattle.values.proofs.Keys.{less_precedes}
 use Rattle.values.proofs.key.is_before.Goals as goal
 
-pub returns-in-Less : goal.returns-in-Less
-returns-in-Less c =
+pub returns : goal.returns
+returns c =
     let a = c.args.a.now in
     let b = c.args.b.now in
-    compared a b c.cmp.result c.cmp.ensures c.in-Less.is
-
-pub returns-in-Equal : goal.returns-in-Equal
-returns-in-Equal c =
-    let a = c.args.a.now in
-    let b = c.args.b.now in
-    compared a b c.cmp.result c.cmp.ensures c.in-Equal.is
-
-pub returns-in-Greater : goal.returns-in-Greater
-returns-in-Greater c =
-    let a = c.args.a.now in
-    let b = c.args.b.now in
-    compared a b c.cmp.result c.cmp.ensures c.in-Greater.is
+    c.lt.ensures ∙ ap (is_some_and is_lt) (lists_agrees (λ x y. refl) a b) ∙ less_precedes a b

@@ -14,7 +14,7 @@ invariant_of-self c =
     sym (take-take s.tally.now.bytes (s.tally.now.bytes + length bytes) c.write_at.new.text (omega arith))
     ∙ ap (take s.tally.now.bytes) c.write_at.ensures
     ∙ take_at (text_of s) bytes _ (text_count s) in
-    record { sound = sound_at {cs = cells_of s} old refl s.sound; cells_fit = s.cells_fit; bytes_fit = (omega arith, s.bytes_fit.1) }
+    record { supplied = record { sound = sound_at {cs = cells_of s} old refl s.supplied.sound; cells_fit = s.supplied.cells_fit; bytes_fit = (omega arith, s.supplied.bytes_fit.1) } }
 
 pub invariant_of-self-2 : goal.invariant_of-self-2
 invariant_of-self-2 c =
@@ -24,9 +24,11 @@ invariant_of-self-2 c =
     let top : s.tally.now.cells < length s.cells.now = omega (arith, free.cells) in
     let e = store_extended s c.args.cell bytes c.requires.fit in
     record {
-      sound = sound_at c.write_at.ensures (take_more_set s.cells.now s.tally.now.cells c.args.cell top) e.sound;
-      cells_fit = (simp length-set (omega (arith, free.cells)), free.few_cells);
-      bytes_fit = (omega (arith, free.bytes), free.few_bytes);
+      supplied = record {
+        sound = sound_at c.write_at.ensures (take_more_set s.cells.now s.tally.now.cells c.args.cell top) e.sound;
+        cells_fit = (simp length-set (omega (arith, free.cells)), free.few_cells);
+        bytes_fit = (omega (arith, free.bytes), free.few_bytes);
+      };
     }
 
 pub returns : goal.returns

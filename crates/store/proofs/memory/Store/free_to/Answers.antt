@@ -1,19 +1,6 @@
-use Rattle.std.proofs.Common.{sym, refl, arith, take-take}
-use Rattle.store.proofs.Cells.{sound_at}
+use Rattle.std.proofs.Common.{sym, refl, take-take}
 use Rattle.store.proofs.Stores.{freed}
 use Rattle.store.proofs.memory.Store.free_to.Goals as goal
-
-pub invariant_of-self : goal.invariant_of-self
-invariant_of-self c =
-    let s = c.args.self.now in
-    let cells = take-take c.args.mark.cells s.tally.now.cells s.cells.now c.requires.cells_low in
-    let text = take-take c.args.mark.bytes s.tally.now.bytes s.text.now c.requires.bytes_low in (
-      sound_at (sym text) (sym cells) c.requires.sound,
-      (
-        (omega (arith, s.cells_fit, c.requires.cells_low), omega (arith, s.cells_fit, c.requires.cells_low)),
-        ((omega (arith, s.bytes_fit, c.requires.bytes_low), omega (arith, s.bytes_fit, c.requires.bytes_low)), tt),
-      ),
-    )
 
 pub returns : goal.returns
 returns c =

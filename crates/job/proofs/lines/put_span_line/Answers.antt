@@ -1,6 +1,0 @@
-use Rattle.job.proofs.Writing.{then_adds, then_wrote}
-use Rattle.job.proofs.lines.put_span_line.Goals as goal
-
-pub returns : goal.returns
-returns c =
-    then_wrote c.put.result (then_adds c.in_ok-put_label.ensures.adds c.in_ok-put_mark.ensures.adds) c.put.ensures
