@@ -3,13 +3,16 @@
 
     python3 tools/expected_report.py < JOB
 
-This is written from docs/FORMAT.md and not from the program, to have something to compare the
+This is written from docs/FORMAT.md, docs/JOBS.md and the definition of programs in
+crates/program/specs/Program.antt, and not from the program, to have something to compare the
 program with.
 """
 
 import sys
-from collections.abc import Iterator
+from collections.abc import Iterable, Iterator
+from dataclasses import dataclass
 from enum import IntEnum
+from typing import NamedTuple
 
 # WHAT IS REPORTED
 
@@ -22,13 +25,14 @@ NO_CLOSING_QUOTE = "a text has no closing quote"
 NOT_ONE_SPACE = "words are separated by one space"
 MORE_WORDS = "there are more words than the call takes"
 
-BAD_SOURCE, MALFORMED, MISPLACED, TOO_DEEP = 1, 2, 3, 4
+BAD_SOURCE, MALFORMED, MISPLACED, TOO_DEEP, TOO_MANY_INSTRUCTIONS = 1, 2, 3, 4, 5
 
 CAUSES = {
     BAD_SOURCE: "the source is too long or is not well-formed text",
     MALFORMED: "the packed bytes are cut, over-long, left over or break the format",
     MISPLACED: "a span is reversed, past the source or inside a character",
     TOO_DEEP: "the nesting is too deep",
+    TOO_MANY_INSTRUCTIONS: "the template has too many instructions",
 }
 
 
@@ -47,11 +51,15 @@ class Refusal(Exception):
 ESCAPES = {b'"': b'"', b"\\": b"\\", b"n": b"\n", b"t": b"\t"}
 
 
-def quoted(text: bytes) -> bytes:
+def with_escapes(text: bytes) -> bytes:
     # backslashes first: the other escapes bring more of them
     for byte, escape in ((b"\\", b"\\\\"), (b'"', b'\\"'), (b"\n", b"\\n"), (b"\t", b"\\t")):
         text = text.replace(byte, escape)
-    return b'"' + text + b'"'
+    return text
+
+
+def quoted(text: bytes) -> bytes:
+    return b'"' + with_escapes(text) + b'"'
 
 
 def is_text(row: bytes) -> bool:
@@ -156,6 +164,122 @@ class Line:
         return ESCAPES[byte]
 
 
+# NODES OF A TREE
+
+
+class Span(NamedTuple):
+    start: int
+    end: int
+
+    def of(self, source: bytes) -> bytes:
+        """The source under the span."""
+        return source[self.start : self.end]
+
+
+class String(NamedTuple):
+    span: Span
+    text: bytes
+
+
+@dataclass(frozen=True)
+class Member:
+    """By index, or by key: then the index is none, and the key is the source under `access`."""
+
+    optional: bool
+    index: int | None
+    access: Span
+    span: Span
+
+
+@dataclass(frozen=True)
+class Variable:
+    members: list[Member]
+
+
+@dataclass(frozen=True)
+class Literal:
+    """With the words for its value."""
+
+    span: Span
+    value: bytes
+
+
+@dataclass(frozen=True)
+class ListOf:
+    span: Span
+    items: "list[Expression]"
+
+
+@dataclass(frozen=True)
+class MapOf:
+    span: Span
+    pairs: "list[tuple[String, Expression]]"
+
+
+@dataclass(frozen=True)
+class Paren:
+    span: Span
+    inner: "Expression"
+
+
+@dataclass(frozen=True)
+class Call:
+    """A call with its arguments, or a filter with its receiver and then the arguments."""
+
+    is_filter: bool
+    name: Span
+    whole: Span
+    values: "list[Expression]"
+
+
+Expression = Variable | Literal | ListOf | MapOf | Paren | Call
+
+
+@dataclass(frozen=True)
+class Raw:
+    span: Span
+
+
+@dataclass(frozen=True)
+class Inline:
+    value: Expression
+
+
+@dataclass(frozen=True)
+class Include:
+    """`value` is that of an include with."""
+
+    name: String
+    value: Expression | None
+
+
+@dataclass(frozen=True)
+class If:
+    negated: bool
+    condition: Expression
+    then: "Block"
+    otherwise: "Block | None"
+
+
+@dataclass(frozen=True)
+class For:
+    """One name, or those of key and value."""
+
+    names: list[Span]
+    iterable: Expression
+    body: "Block"
+
+
+@dataclass(frozen=True)
+class With:
+    name: Span
+    value: Expression
+    body: "Block"
+
+
+Statement = Raw | Inline | Include | If | For | With
+Block = list[Statement]
+
 # COMMANDS OF A PACKED TREE
 
 MOST_BYTES = 8192
@@ -174,8 +298,6 @@ STATEMENTS = range(Code.RAW, Code.END + 1)
 EXPRESSIONS = range(Code.VARIABLE, Code.FILTER + 1)
 PARTS = range(Code.VARIABLE, Code.CALL + 1)
 LITERAL_VALUES = range(Code.NONE, Code.STRING + 1)
-
-Span = tuple[int, int]
 
 
 class Command:
@@ -203,8 +325,8 @@ class Command:
     def number(self, length: int, signed: bool = False) -> int:
         return int.from_bytes(self.take(length), "little", signed=signed)
 
-    def flag(self) -> int:
-        return self.count(0, 1)
+    def flag(self) -> bool:
+        return self.count(0, 1) == 1
 
     def count(self, least: int, most: int) -> int:
         count = self.number(1)
@@ -212,7 +334,7 @@ class Command:
         return count
 
     def span(self) -> Span:
-        span = self.number(2), self.number(2)
+        span = Span(self.number(2), self.number(2))
         self.unplaced.append(span)
         return span
 
@@ -221,17 +343,13 @@ class Command:
         self.require(is_text(text))
         return text
 
-    def string(self) -> tuple[Span, bytes]:
-        return self.span(), self.text()
+    def string(self) -> String:
+        return String(self.span(), self.text())
 
-    def member(self) -> Span:
-        """A variable's member. Of its two spans the access's is tested only."""
-        self.flag()
-        by_key = self.flag()
-        if not by_key:
-            self.number(4)
-        self.span()
-        return self.span()
+    def member(self) -> Member:
+        optional, by_key = self.flag(), self.flag()
+        index = None if by_key else self.number(4)
+        return Member(optional, index, self.span(), self.span())
 
     def place(self) -> None:
         """Tests the spans that were read: cause 3."""
@@ -251,13 +369,11 @@ class Command:
 class Tree:
     """A packed tree over its source, and how far it is read.
 
-    An outline has its lines in the order in which the tree is read, so it is written on the way.
-    `level` is how far a line is indented. `depth` is how deep a block or expression is nested.
+    `depth` is how deep a block or expression is nested.
     """
 
     def __init__(self, source: bytes, packed: bytes):
         self.source, self.packed, self.at = source, packed, 0
-        self.outline: list[bytes] = []
 
     def is_placed(self, span: Span) -> bool:
         start, end = span
@@ -267,103 +383,89 @@ class Tree:
         """Whether a position is inside a character."""
         return position < len(self.source) and 0x80 <= self.source[position] <= 0xBF
 
-    def write(self, level: int, label: bytes, *spans: Span) -> None:
-        texts = (b" %d-%d %s" % (start, end, quoted(self.source[start:end])) for start, end in spans)
-        self.outline.append(b"  " * level + label + b"".join(texts))
-
-    def whole(self) -> None:
-        self.statements(1, 0)
+    def whole(self) -> Block:
+        statements = self.statements(0)
         if self.at < len(self.packed):
             raise Refusal(MALFORMED, self.at)
+        return statements
 
     # statements
 
-    def statements(self, level: int, depth: int) -> None:
+    def statements(self, depth: int) -> Block:
         """Statements and their end, in `depth` blocks."""
+        statements = []
         while (command := Command(self, STATEMENTS)).code != Code.END:
-            self.statement(command, level, depth)
+            statements.append(self.statement(command, depth))
+        return statements
 
-    def statement(self, command: Command, level: int, depth: int) -> None:
+    def statement(self, command: Command, depth: int) -> Statement:
         match command.code:
             case Code.RAW:
-                self.raw(command, level)
+                return self.raw(command)
             case Code.INLINE:
-                self.write(level, b"inline")
-                self.expression(level + 1)
+                return Inline(self.expression())
             case Code.INCLUDE | Code.INCLUDE_WITH:
-                self.include(command, level)
+                return self.include(command)
             case Code.IF | Code.IF_ELSE:
-                self.condition(command, level, depth + 1)
-            case Code.FOR_ONE | Code.FOR_TWO | Code.WITH:
-                self.binding(command, level, depth + 1)
+                return self.condition(command, depth + 1)
+        return self.binding(command, depth + 1)
 
-    def raw(self, command: Command, level: int) -> None:
+    def raw(self, command: Command) -> Raw:
         span = command.span()
         command.place()
-        self.write(level, b"raw", span)
+        return Raw(span)
 
-    def include(self, command: Command, level: int) -> None:
-        span, name = command.string()
+    def include(self, command: Command) -> Include:
+        name = command.string()
         command.place()
-        if command.code == Code.INCLUDE:
-            self.write(level, b"include " + quoted(name), span)
-        else:
-            self.write(level, b"include with " + quoted(name), span)
-            self.expression(level + 1)
+        return Include(name, self.expression() if command.code == Code.INCLUDE_WITH else None)
 
-    def condition(self, command: Command, level: int, depth: int) -> None:
+    def condition(self, command: Command, depth: int) -> If:
         negated = command.flag()
         command.place_at(depth, DEEPEST_BLOCK)
-        self.write(level, b"if not" if negated else b"if")
-        self.expression(level + 1)
-        self.block(b"then", level, depth)
-        if command.code == Code.IF_ELSE:
-            self.block(b"else", level, depth)
+        condition = self.expression()
+        then = self.statements(depth)
+        otherwise = self.statements(depth) if command.code == Code.IF_ELSE else None
+        return If(negated, condition, then, otherwise)
 
-    def binding(self, command: Command, level: int, depth: int) -> None:
+    def binding(self, command: Command, depth: int) -> For | With:
         """A for or a with. The third span of two names is tested only."""
         spans = [command.span() for _ in range(3 if command.code == Code.FOR_TWO else 1)]
         command.place_at(depth, DEEPEST_BLOCK)
-        self.write(level, b"with" if command.code == Code.WITH else b"for", *spans[:2])
-        self.expression(level + 1)
-        self.block(b"do", level, depth)
-
-    def block(self, label: bytes, level: int, depth: int) -> None:
-        self.write(level, label)
-        self.statements(level + 1, depth)
+        value, body = self.expression(), self.statements(depth)
+        if command.code == Code.WITH:
+            return With(spans[0], value, body)
+        return For(spans[:2], value, body)
 
     # expressions
 
-    def expression(self, level: int, depth: int = 1, known: range = EXPRESSIONS) -> None:
+    def expression(self, depth: int = 1, known: range = EXPRESSIONS) -> Expression:
         command = Command(self, known)
         match command.code:
             case Code.VARIABLE:
-                self.variable(command, level, depth)
+                return self.variable(command, depth)
             case Code.LITERAL:
-                self.literal(command, level, depth)
+                return self.literal(command, depth)
             case Code.LIST:
-                self.list_of_parts(command, level, depth)
+                return self.list_of_parts(command, depth)
             case Code.MAP:
-                self.map_of_parts(command, level, depth)
+                return self.map_of_parts(command, depth)
             case Code.PARENS:
-                self.parens(command, level, depth)
-            case Code.CALL | Code.FILTER:
-                self.call(command, level, depth)
+                return self.parens(command, depth)
+        return self.call(command, depth)
 
-    def parts(self, count: int, level: int, depth: int) -> None:
-        for _ in range(count):
-            self.expression(level, depth, PARTS)
+    def parts(self, count: int, depth: int) -> list[Expression]:
+        return [self.expression(depth, PARTS) for _ in range(count)]
 
-    def variable(self, command: Command, level: int, depth: int) -> None:
+    def variable(self, command: Command, depth: int) -> Variable:
         members = [command.member() for _ in range(command.count(1, 8))]
         command.place_at(depth, DEEPEST_EXPRESSION)
-        self.write(level, b"variable", *members)
+        return Variable(members)
 
-    def literal(self, command: Command, level: int, depth: int) -> None:
+    def literal(self, command: Command, depth: int) -> Literal:
         span = command.span()
         command.place_at(depth, DEEPEST_EXPRESSION)
-        self.write(level, b"literal", span)
-        self.write(level + 1, b"value " + self.value())
+        return Literal(span, self.value())
 
     def value(self) -> bytes:
         """The words for a literal's value."""
@@ -377,52 +479,290 @@ class Tree:
                 return b"string " + quoted(command.text())
         return {Code.NONE: b"none", Code.FALSE: b"false", Code.TRUE: b"true"}[command.code]
 
-    def list_of_parts(self, command: Command, level: int, depth: int) -> None:
+    def list_of_parts(self, command: Command, depth: int) -> ListOf:
         span, count = command.span(), command.count(0, 255)
         command.place_at(depth, DEEPEST_EXPRESSION)
-        self.write(level, b"list", span)
-        self.parts(count, level + 1, depth + 1)
+        return ListOf(span, self.parts(count, depth + 1))
 
-    def map_of_parts(self, command: Command, level: int, depth: int) -> None:
+    def map_of_parts(self, command: Command, depth: int) -> MapOf:
         """The first key is tested with the map, each other one behind the value before it."""
         span, count = command.span(), command.count(0, 255)
         key = command.string() if count else None
         command.place_at(depth, DEEPEST_EXPRESSION)
-        self.write(level, b"map", span)
+        pairs = []
         for i in range(count):
             if i > 0:
                 key = command.string()
                 command.place()
-            self.write(level + 1, b"key " + quoted(key[1]), key[0])
-            self.expression(level + 2, depth + 1, PARTS)
+            pairs.append((key, self.expression(depth + 1, PARTS)))
+        return MapOf(span, pairs)
 
-    def parens(self, command: Command, level: int, depth: int) -> None:
+    def parens(self, command: Command, depth: int) -> Paren:
         span = command.span()
         command.place_at(depth, DEEPEST_EXPRESSION)
-        self.write(level, b"paren", span)
-        self.expression(level + 1, depth + 1)
+        return Paren(span, self.expression(depth + 1))
 
-    def call(self, command: Command, level: int, depth: int) -> None:
+    def call(self, command: Command, depth: int) -> Call:
         """A call or a filter, which has its receiver before the arguments."""
         is_filter = command.code == Code.FILTER
         name, whole = command.span(), command.span()
         count = command.count(0, 7 if is_filter else 8)
         command.place_at(depth, DEEPEST_EXPRESSION)
-        self.write(level, b"filter" if is_filter else b"call", whole, name)
-        if is_filter:
-            self.expression(level + 1, depth + 1)
-        self.parts(count, level + 1, depth + 1)
+        receiver = [self.expression(depth + 1)] if is_filter else []
+        return Call(is_filter, name, whole, receiver + self.parts(count, depth + 1))
 
 
-def outline(source: bytes, packed: bytes) -> list[bytes]:
-    """The lines of a template's outline; raises what it is refused for."""
+def unpacked(source: bytes, packed: bytes) -> Block:
+    """The statements of a template; raises what it is refused for."""
     if len(source) > MOST_BYTES or not is_text(source):
         raise Refusal(BAD_SOURCE)
     if len(packed) > MOST_BYTES:
         raise Refusal(MALFORMED)
-    tree = Tree(source, packed)
-    tree.whole()
-    return tree.outline
+    return Tree(source, packed).whole()
+
+
+# OUTLINE
+
+
+class Outline:
+    """The lines of an outline over its source. `level` is how far a line is indented."""
+
+    def __init__(self, source: bytes):
+        self.source = source
+        self.lines: list[bytes] = []
+
+    def write(self, level: int, label: bytes, *spans: Span) -> None:
+        texts = (b" %d-%d %s" % (*span, quoted(span.of(self.source))) for span in spans)
+        self.lines.append(b"  " * level + label + b"".join(texts))
+
+    def statements(self, level: int, statements: Block) -> None:
+        for statement in statements:
+            self.statement(level, statement)
+
+    def statement(self, level: int, statement: Statement) -> None:
+        match statement:
+            case Raw(span):
+                self.write(level, b"raw", span)
+            case Inline(value):
+                self.write(level, b"inline")
+                self.expression(level + 1, value)
+            case Include(name, None):
+                self.write(level, b"include " + quoted(name.text), name.span)
+            case Include(name, value):
+                self.write(level, b"include with " + quoted(name.text), name.span)
+                self.expression(level + 1, value)
+            case If():
+                self.condition(level, statement)
+            case For(names, iterable, body):
+                self.write(level, b"for", *names)
+                self.binding(level, iterable, body)
+            case With(name, value, body):
+                self.write(level, b"with", name)
+                self.binding(level, value, body)
+
+    def condition(self, level: int, statement: If) -> None:
+        self.write(level, b"if not" if statement.negated else b"if")
+        self.expression(level + 1, statement.condition)
+        self.block(level, b"then", statement.then)
+        if statement.otherwise is not None:
+            self.block(level, b"else", statement.otherwise)
+
+    def binding(self, level: int, value: Expression, body: Block) -> None:
+        self.expression(level + 1, value)
+        self.block(level, b"do", body)
+
+    def block(self, level: int, label: bytes, statements: Block) -> None:
+        self.write(level, label)
+        self.statements(level + 1, statements)
+
+    def expression(self, level: int, expression: Expression) -> None:
+        match expression:
+            case Variable(members):
+                self.write(level, b"variable", *(member.span for member in members))
+            case Literal(span, value):
+                self.write(level, b"literal", span)
+                self.write(level + 1, b"value " + value)
+            case ListOf(span, items):
+                self.write(level, b"list", span)
+                self.expressions(level + 1, items)
+            case MapOf(span, pairs):
+                self.write(level, b"map", span)
+                for key, value in pairs:
+                    self.write(level + 1, b"key " + quoted(key.text), key.span)
+                    self.expression(level + 2, value)
+            case Paren(span, inner):
+                self.write(level, b"paren", span)
+                self.expression(level + 1, inner)
+            case Call(is_filter, name, whole, values):
+                self.write(level, b"filter" if is_filter else b"call", whole, name)
+                self.expressions(level + 1, values)
+
+    def expressions(self, level: int, expressions: list[Expression]) -> None:
+        for expression in expressions:
+            self.expression(level, expression)
+
+
+def outline(source: bytes, statements: Block) -> list[bytes]:
+    written = Outline(source)
+    written.statements(1, statements)
+    return written.lines
+
+
+# PROGRAMS
+
+MOST_INSTRUCTIONS = 1024
+
+# where a jump goes or how many values are taken, a name, or a part of the tree
+Operand = int | Span | String | Raw | Variable | Literal
+
+
+class Instruction:
+    """With the operands that are listed. Those that only a fault needs are left out."""
+
+    def __init__(self, name: str, *operands: Operand):
+        self.name, self.operands = name, operands
+
+
+Program = list[Instruction]
+
+
+def of_expression(expression: Expression) -> Program:
+    """Makes the value of an expression the current one."""
+    match expression:
+        case Variable():
+            return [Instruction("ExprStartVar", expression)]
+        case Literal():
+            return [Instruction("ExprStartLiteral", expression)]
+        case ListOf(_, items):
+            pushed = ([*of_expression(item), Instruction("ExprListPush")] for item in items)
+            return [Instruction("ExprStartList"), *joined(pushed)]
+        case MapOf(_, pairs):
+            put = ([*of_expression(part), Instruction("ExprMapInsert", key)] for key, part in pairs)
+            return [Instruction("ExprStartMap"), *joined(put)]
+        case Paren(_, inner):
+            return of_expression(inner)
+    return called("Apply", expression)
+
+
+def called(instruction: str, call: Call) -> Program:
+    """The values that a call or filter takes, and behind them the instruction that takes them."""
+    values = joined(of_expression(value) for value in call.values)
+    return [*values, Instruction(instruction, call.name, len(call.values))]
+
+
+def joined(programs: Iterable[Program]) -> Program:
+    return [instruction for program in programs for instruction in program]
+
+
+def emitted(expression: Expression) -> Program:
+    """Emits the value of an expression; a call or filter, parens taken off, as it is applied."""
+    while isinstance(expression, Paren):
+        expression = expression.inner
+    if isinstance(expression, Call):
+        return called("EmitWith", expression)
+    return [*of_expression(expression), Instruction("Emit")]
+
+
+def of_statement(statement: Statement, at: int) -> Program:
+    """The instructions of a statement, the first of which has the number `at`."""
+    match statement:
+        case Raw():
+            return [Instruction("EmitRaw", statement)]
+        case Inline(value):
+            return emitted(value)
+        case Include(name, None):
+            return [Instruction("Include", name)]
+        case Include(name, value):
+            return [*of_expression(value), Instruction("IncludeWith", name)]
+        case If():
+            return of_condition(statement, at)
+        case For():
+            return of_loop(statement, at)
+    return of_with(statement, at)
+
+
+def of_condition(statement: If, at: int) -> Program:
+    condition = of_expression(statement.condition)
+    jump = "JumpIfTrue" if statement.negated else "JumpIfFalse"
+    body_at = at + len(condition) + 1
+    body = of_block(statement.then, body_at)
+    end = body_at + len(body)
+    if statement.otherwise is None:
+        return [*condition, Instruction(jump, end), *body]
+    otherwise_at = end + 1
+    otherwise = of_block(statement.otherwise, otherwise_at)
+    leave = Instruction("Jump", otherwise_at + len(otherwise))
+    return [*condition, Instruction(jump, otherwise_at), *body, leave, *otherwise]
+
+
+def of_loop(statement: For, at: int) -> Program:
+    iterable = of_expression(statement.iterable)
+    next_at = at + len(iterable) + 1
+    body = of_block(statement.body, next_at + 1)
+    end = next_at + 1 + len(body) + 1
+    start = Instruction("LoopStart", *statement.names)
+    return [*iterable, start, Instruction("LoopNext", end), *body, Instruction("Jump", next_at)]
+
+
+def of_with(statement: With, at: int) -> Program:
+    value = of_expression(statement.value)
+    body = of_block(statement.body, at + len(value) + 1)
+    return [*value, Instruction("WithStart", statement.name), *body, Instruction("WithEnd")]
+
+
+def of_block(statements: Block, at: int) -> Program:
+    instructions: Program = []
+    for statement in statements:
+        instructions += of_statement(statement, at + len(instructions))
+    return instructions
+
+
+def compiled(statements: Block) -> Program:
+    return of_block(statements, 0)
+
+
+# LISTING
+
+
+def listing(source: bytes, program: Program) -> list[bytes]:
+    count = len(program)
+    if count > MOST_INSTRUCTIONS:
+        return [b"  " + refused(Refusal(TOO_MANY_INSTRUCTIONS, count))]
+    lines = [b"    %d %s" % (i, listed(source, program[i])) for i in range(count)]
+    return [b"  program of %d instructions" % count, *lines]
+
+
+def listed(source: bytes, instruction: Instruction) -> bytes:
+    operands = (operand_words(source, operand) for operand in instruction.operands)
+    return b" ".join([instruction.name.encode(), *operands])
+
+
+def operand_words(source: bytes, operand: Operand) -> bytes:
+    match operand:
+        case Span():
+            return with_escapes(operand.of(source))
+        case String(_, text):
+            return quoted(text)
+        case Raw(span):
+            return quoted(span.of(source))
+        case Variable(members):
+            return path(source, members)
+        case Literal(_, value):
+            return value
+    return b"%d" % operand
+
+
+def path(source: bytes, members: list[Member]) -> bytes:
+    """The members of a variable in a row."""
+    words = b""
+    for i, member in enumerate(members):
+        if member.optional:
+            words += b"?."
+        elif i > 0:
+            words += b"."
+        by_key = member.index is None
+        words += with_escapes(member.access.of(source)) if by_key else b"%d" % member.index
+    return words
 
 
 # REPORT
@@ -430,7 +770,9 @@ def outline(source: bytes, packed: bytes) -> list[bytes]:
 
 def refused(refusal: Refusal) -> bytes:
     words = f"refused by cause {refusal.cause}, {CAUSES[refusal.cause]}"
-    if refusal.cause != BAD_SOURCE:
+    if refusal.cause == TOO_MANY_INSTRUCTIONS:
+        words += f": {refusal.detail}"
+    elif refusal.cause != BAD_SOURCE:
         words += f", at byte {refusal.detail} of the tree"
     return words.encode()
 
@@ -448,14 +790,15 @@ def report_lines(job: bytes) -> Iterator[bytes]:
             continue
         begin = b"line %d: add %s: " % (number, quoted(name))
         try:
-            nodes = outline(source, packed)
+            statements = unpacked(source, packed)
         except Refusal as refusal:
             refusals += 1
             yield begin + refused(refusal)
             continue
         taken += 1
         yield begin + b"taken, source of %d bytes, tree of %d bytes" % (len(source), len(packed))
-        yield from nodes
+        yield from outline(source, statements)
+        yield from listing(source, compiled(statements))
     yield f"{taken} taken, {refusals} refused, {bad} bad lines".encode()
 
 

@@ -127,7 +127,8 @@ def main(argv):
             print(f"    {path}: {what} ({n})")
     answers = lines = files = 0
     for folder, _, names in os.walk(os.path.join(root, "crates")):
-        if os.sep + "out" in folder or os.sep + "proofs" not in folder:
+        parts = os.path.relpath(folder, os.path.join(root, "crates")).split(os.sep)
+        if len(parts) < 2 or parts[1] != "proofs":
             continue
         for name in names:
             if name.endswith(".antt"):

@@ -1,8 +1,9 @@
 //! Scope, statement, expression and base expression, which compile by calling one another.
 //!
 //! Each method takes a position in the tree, and answers where its part ends. Every part has more bytes than
-//! instructions, so that their number stays below the position. The tree stands beside the compiler: in it, each
-//! method would have to promise that it stays the same.
+//! instructions, so that their number stays below the position: `room` and `ahead` say so of the position and the
+//! number that a part begins with. The tree stands beside the compiler: in it, each method would have to promise that it
+//! stays the same. What a checked tree must hold is taken by `let .. else`, so that the other case is refuted at its place.
 
 ghost use Rattle.std.specs.Prelude.{◌≡◌, ◌+◌, ◌^◌, ◌<◌, ◌≤◌, true, length};
 ghost use Rattle.checker.specs.There.{ArgsThere, BaseThere, ExprThere, PairsThere, ScopeThere};

@@ -7,7 +7,7 @@ ghost use Rattle.compiler.specs.Writing.{Emitting, Patched, Pushed};
 use crate::instr::{Instr, Op};
 
 /// The slice that the instructions are written to, and how many there are so far. Those past its end are counted all
-/// the same.
+/// the same. That it stays the same slice (`lender`) ties two states, which no field of one can say.
 #[derive(Drop)]
 pub struct Compiler<'i> {
     pub instrs: &'i mut [Instr],

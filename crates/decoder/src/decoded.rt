@@ -12,7 +12,7 @@ pub enum LoopVars {
     KeyValue(Span, Span, Span),
 }
 
-/// An instruction, whose strings, members and literals are parts of the tree.
+/// An instruction, whose strings and members are parts of the tree.
 #[derive(Clone, Copy)]
 pub enum Decoded<'t> {
     /// Go on at the instruction of that number.

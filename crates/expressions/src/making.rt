@@ -1,5 +1,6 @@
 //! Literals, lists and maps. The store stands beside the stack of values: scopes and hosts use it between two of
-//! these calls.
+//! these calls. That there is room on the stack (`spare`) and that the store knows its values (`known`) are asked of each
+//! state, since both change under them. What must be on the stack is taken by `let .. else`.
 
 ghost use Rattle.std.specs.Prelude.{◌≡◌, ◌∷◌};
 ghost use Rattle.meaning.specs.Charge.{cell_and_text, charge, cost, one_cell};
@@ -31,10 +32,8 @@ pub fn push_value(
     ensures tops { Tops (entries values.old) (entries values.new) span made result }
 {
     let value = made.ok().ok_or(Fault::at(Cause::StoreFull, span, 0))?;
-    match values.push(Argument { value, span }) {
-        Ok(()) => Ok(()),
-        Err(_) => unreachable(),
-    }
+    values.push(Argument { value, span }).unwrap();
+    Ok(())
 }
 
 pub fn start_list(values: &mut Stack<Argument>, store: &mut Store, span: Span) -> Result<(), Fault>

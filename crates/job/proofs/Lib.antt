@@ -1,4 +1,5 @@
 pub mod Writing
 pub mod Rows
 pub mod Arms
+pub mod Meanings
 pub mod Wording

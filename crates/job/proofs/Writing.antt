@@ -1,8 +1,7 @@
 -- One part of a report after another.
 use Rattle.std.proofs.Common.{◌≡◌, ℕ, suc, ◌+◌, ◌-◌, ◌<◌, ◌≤◌, List, [], ◌∷◌, ◌++◌, length, get_or, drop, IfOk, Ok, Err, codes, Result, sym, ap, ◌∙◌, append_assoc, append-nil, add-one, arith, drop_of_length-le, drop-cons}
 use Rattle.std.specs.declared.alloc.AllocError.{AllocError}
-use Rattle.meaning.specs.declared.tree.Member.{Member}
-use Rattle.job.specs.Lines.{Adds, Wrote, escape, escaped, indent, mark, marks}
+use Rattle.job.specs.Lines.{Adds, Wrote, escape, escaped, indent}
 
 pub adds_nothing : {x : List ℕ} → Adds [] x x
 adds_nothing {x} = record { is = sym (append-nil x) }
@@ -30,39 +29,29 @@ wrote_same {A} {a} {b} {x} {y} r same f = record { adds = by r f.adds }
     by (Ok u) g = adds_same same g
     by (Err err) g = tt
 
-pub indent_more : (out more whole : List ℕ) (depth level : ℕ) → level < depth → Adds (codes "  ") out more → out ++ indent (depth - level) ≡ whole → more ++ indent (depth - (level + 1)) ≡ whole
-indent_more out more whole depth level h e inv =
+-- PARTS IN A ROW
+
+pub row_more : (out more whole one rest left : List ℕ) → left ≡ one ++ rest → Adds one out more → out ++ left ≡ whole → more ++ rest ≡ whole
+row_more out more whole one rest left e f inv =
+    ap (λ (s : List ℕ). s ++ rest) f.is ∙ append_assoc out one rest ∙ ap (λ (s : List ℕ). out ++ s) (sym e) ∙ inv
+
+pub row_whole : (before so_far all left : List ℕ) → left ≡ [] → so_far ++ left ≡ before ++ all → Adds all before so_far
+row_whole before so_far all left none inv =
+    record { is = sym (append-nil so_far) ∙ ap (λ (s : List ℕ). so_far ++ s) (sym none) ∙ inv }
+
+-- what is left of a row: one part and the others, or nothing
+pub indent_on : (depth level : ℕ) → level < depth → indent (depth - level) ≡ codes "  " ++ indent (depth - (level + 1))
+indent_on depth level h =
     let some : depth - level ≡ suc (depth - (level + 1)) = omega arith in
-    ap (λ (s : List ℕ). s ++ indent (depth - (level + 1))) e.is
-    ∙ append_assoc out (codes "  ") (indent (depth - (level + 1)))
-    ∙ ap (λ (n : ℕ). out ++ indent n) (sym some)
-    ∙ inv
+    ap indent some
 
-pub indent_whole : (before so_far : List ℕ) (depth level : ℕ) → depth ≤ level → so_far ++ indent (depth - level) ≡ before ++ indent depth → Adds (indent depth) before so_far
-indent_whole before so_far depth level past inv =
+pub indent_end : (depth level : ℕ) → depth ≤ level → indent (depth - level) ≡ []
+indent_end depth level past =
     let none : depth - level ≡ 0 = omega arith in
-    record { is = sym (append-nil so_far) ∙ ap (λ n. so_far ++ indent n) (sym none) ∙ inv }
+    ap indent none
 
-pub escaped_more : (out more whole text : List ℕ) (i : ℕ) → i < length text → Adds (escape (get_or text i 0)) out more → out ++ escaped (drop i text) ≡ whole → more ++ escaped (drop (i + 1) text) ≡ whole
-escaped_more out more whole text i h e inv =
-    ap (λ (s : List ℕ). s ++ escaped (drop (i + 1) text)) e.is
-    ∙ append_assoc out (escape (get_or text i 0)) (escaped (drop (i + 1) text))
-    ∙ ap (λ (s : List ℕ). out ++ escaped s) (sym (drop-cons text i 0 h ∙ ap (λ n. get_or text i 0 ∷ drop n text) (sym (add-one i))))
-    ∙ inv
+pub escaped_on : (text : List ℕ) (i : ℕ) → i < length text → escaped (drop i text) ≡ escape (get_or text i 0) ++ escaped (drop (i + 1) text)
+escaped_on text i h = ap escaped (drop-cons text i 0 h ∙ ap (λ n. get_or text i 0 ∷ drop n text) (sym (add-one i)))
 
--- between the quotes stands the whole text
-pub escaped_whole : (first so_far text : List ℕ) (i : ℕ) → length text ≤ i → so_far ++ escaped (drop i text) ≡ first ++ escaped text → Adds (escaped text) first so_far
-escaped_whole first so_far text i past inv =
-    let none : escaped (drop i text) ≡ [] = ap escaped (drop_of_length-le text past) in
-    record { is = sym (append-nil so_far) ∙ ap (λ s. so_far ++ s) (sym none) ∙ inv }
-
-pub marks_more : (source out more whole : List ℕ) (m : Member) (ms rest : List Member) → ms ≡ m ∷ rest → Adds (mark source m.span) out more → out ++ marks source ms ≡ whole → more ++ marks source rest ≡ whole
-marks_more source out more whole m ms rest e f inv =
-    ap (λ (s : List ℕ). s ++ marks source rest) f.is
-    ∙ append_assoc out (mark source m.span) (marks source rest)
-    ∙ ap (λ ms. out ++ marks source ms) (sym e)
-    ∙ inv
-
-pub marks_whole : (source before so_far : List ℕ) (all left : List Member) → left ≡ [] → so_far ++ marks source left ≡ before ++ marks source all → Adds (marks source all) before so_far
-marks_whole source before so_far all left none inv =
-    record { is = sym (append-nil so_far) ∙ ap (λ ms. so_far ++ marks source ms) (sym none) ∙ inv }
+pub escaped_end : (text : List ℕ) (i : ℕ) → length text ≤ i → escaped (drop i text) ≡ []
+escaped_end text i past = ap escaped (drop_of_length-le text past)

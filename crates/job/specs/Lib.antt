@@ -4,5 +4,7 @@ pub mod Calls
 pub mod Lines
 pub mod Outline
 pub mod Outlined
+pub mod Listing
+pub mod Listed
 pub mod Report
 pub mod Reported

@@ -11,6 +11,7 @@ use Rattle.job.specs.declared.report.Counts.{Counts}
 use Rattle.job.specs.Calls.{Call, passed_over, add}
 use Rattle.job.specs.Lines.{quoted}
 use Rattle.job.specs.Outline.{outline_scope}
+use Rattle.job.specs.Listing.{listing}
 
 -- a cause in words
 abbrev pub cause_words : Cause → List ℕ
@@ -60,9 +61,12 @@ abbrev pub place_words : (cause detail : ℕ) → List ℕ
 place_words cause detail =
     cond (cause == 1) (codes "\n") (codes ", at byte " ++ (decimal detail ++ codes " of the tree\n"))
 
+-- a cause by number and in words
+abbrev pub refused_by : Cause → List ℕ
+refused_by cause = codes "refused by cause " ++ (decimal (number cause) ++ codes ", ") ++ cause_words cause
+
 abbrev pub refused_words : Fault → List ℕ
-refused_words f =
-    codes ": refused by cause " ++ (decimal (number f.cause) ++ codes ", ") ++ cause_words f.cause ++ place_words (number f.cause) f.detail
+refused_words f = codes ": " ++ refused_by f.cause ++ place_words (number f.cause) f.detail
 
 abbrev pub taken_words : (source tree : List ℕ) → List ℕ
 taken_words source tree =
@@ -70,7 +74,7 @@ taken_words source tree =
 
 -- what is said behind the name of a template to be added
 abbrev pub verdict_words : (source tree : List ℕ) → Or Fault Scope → List ℕ
-verdict_words source tree (gives scope) = taken_words source tree ++ outline_scope source 1 scope
+verdict_words source tree (gives scope) = taken_words source tree ++ outline_scope source 1 scope ++ listing source scope
 verdict_words source tree (fails f) = refused_words f
 
 abbrev pub call_words : (line_number : ℕ) → Or BadLine Call → List ℕ

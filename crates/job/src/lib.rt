@@ -4,6 +4,7 @@
 
 pub mod line;
 mod lines;
+mod listing;
 mod outline;
 pub mod report;
 pub mod word;

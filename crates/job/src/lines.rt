@@ -1,7 +1,7 @@
 //! A report, and the lines that are written behind what it has.
 
 ghost use Rattle.std.specs.Prelude.{◌≡◌, IfSome, List, OnOk, [], ℕ};
-ghost use Rattle.job.specs.Lines.{Adds, Wrote, escape, indent, indented, label_line, mark, marks, members_line, quoted, span_line, spans_line, string_line, value_line, value_text};
+ghost use Rattle.job.specs.Lines.{Adds, Wrote, escape, escaped, indent, indented, label_line, mark, marks, members_line, quoted, span_line, spans_line, string_line, value_line, value_text};
 ghost use Rattle.reader.specs.Fields.{members_of, text_of};
 ghost use Rattle.reader.specs.Meanings.{plain_of};
 
@@ -99,14 +99,22 @@ impl Report {
         }
     }
 
+    /// A text as in double quotes, without them.
+    pub(crate) fn put_text(&mut self, text: &[u8]) -> Result<(), AllocError>
+        ensures { Wrote (escaped text.now) result self.old self.new }
+    {
+        for byte in text {
+            self.put_escaped(*byte)?;
+        }
+        Ok(())
+    }
+
     /// A text in double quotes.
     pub(crate) fn put_quoted(&mut self, text: &[u8]) -> Result<(), AllocError>
         ensures { Wrote (quoted text.now) result self.old self.new }
     {
         self.put(b"\"")?;
-        for byte in text {
-            self.put_escaped(*byte)?;
-        }
+        self.put_text(text)?;
         self.put(b"\"")
     }
 
@@ -219,7 +227,7 @@ impl Report {
     }
 
     /// A literal's value.
-    fn put_value(&mut self, value: PlainValue) -> Result<(), AllocError>
+    pub(crate) fn put_value(&mut self, value: PlainValue) -> Result<(), AllocError>
         ensures { Wrote (value_text (plain_of value.entry)) result self.old self.new }
     {
         match value {

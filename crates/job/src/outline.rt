@@ -1,6 +1,7 @@
 //! The outline of a checked template: a line for each statement and expression.
 //!
-//! Each function takes the position that it reads from and answers the position after what it read.
+//! Each function takes the position that it reads from and answers the position after what it read. What a checked tree
+//! must hold is taken by `let .. else`, so that the other case is refuted at its place.
 
 ghost use Rattle.std.specs.Prelude.{◌≡◌, ◌+◌, ◌*◌, ◌≤◌, length};
 ghost use Rattle.meaning.specs.Or.{gives};

@@ -7,7 +7,7 @@ ghost use Rattle.packing.specs.Unpacking.{unpack};
 ghost use Rattle.meaning.specs.Or.{fails, gives};
 ghost use Rattle.job.specs.Calls.{add, call_of};
 ghost use Rattle.job.specs.Lines.{Wrote};
-ghost use Rattle.job.specs.Report.{bad_words, call_words, came_of, came_of_add, cause_words, counts_words, heading, place_words, refused_words, taken_words, verdict_words};
+ghost use Rattle.job.specs.Report.{bad_words, call_words, came_of, came_of_add, cause_words, counts_words, heading, place_words, refused_by, refused_words, taken_words, verdict_words};
 ghost use Rattle.job.specs.Reported.{CameTo, counted, no_counts, one_more};
 
 use crate::line::{Line, read_line};
@@ -91,6 +91,7 @@ impl Display for BadLine {
     }
 }
 
+// written out, since its law names the counts of the definition
 impl Default for Counts {
     ghost is_default = { λ counts. counts ≡ no_counts };
 
@@ -143,13 +144,21 @@ impl Report {
         }
     }
 
+    /// The cause of a refusal, by number and in words.
+    pub(crate) fn put_cause(&mut self, cause: Cause) -> Result<(), AllocError>
+        ensures { Wrote (refused_by cause) result self.old self.new }
+    {
+        let number = cause.number();
+        write!(self, "refused by cause {number}, ")?;
+        self.put(words_of_cause(cause))
+    }
+
     /// Why bytes are no template.
     fn put_refusal(&mut self, fault: Fault) -> Result<(), AllocError>
         ensures { Wrote (refused_words (fault_of fault)) result self.old self.new }
     {
-        let number = fault.cause.number();
-        write!(self, ": refused by cause {number}, ")?;
-        self.put(words_of_cause(fault.cause))?;
+        self.put(b": ")?;
+        self.put_cause(fault.cause)?;
         self.put_place(fault.cause, fault.detail)
     }
 
@@ -165,7 +174,8 @@ impl Report {
         )
     }
 
-    /// What is found of a template's bytes: its outline, or why they are refused.
+    /// What is found of a template's bytes, which are none before they are checked: its outline and its listing, or why
+    /// they are refused.
     fn put_verdict(&mut self, source: &[u8], tree: &[u8]) -> Result<Came, AllocError>
         ensures wrote { Wrote (verdict_words source.now tree.now (unpack source.now tree.now)) result self.old self.new }
         ensures came { CameTo (came_of_add (unpack source.now tree.now)) result }
@@ -174,6 +184,7 @@ impl Report {
             Ok(template) => {
                 self.put_taken(source, tree)?;
                 outline(&template, self)?;
+                self.put_listing(&template)?;
                 Ok(Came::Taken)
             }
             Err(fault) => {

@@ -1,4 +1,5 @@
-//! The words of a job's line: bytes as hexadecimal digits, `-` for none, or text in double quotes.
+//! The words of a job's line: bytes as hexadecimal digits, `-` for none, or text in double quotes. The heap is no part of
+//! a line, and stands beside it where bytes are made.
 
 ghost use Rattle.std.specs.Prelude.{◌<◌, ◌≡◌, IfSome, vec_items};
 ghost use Rattle.job.specs.declared.word.Failure.TheVariants.{Bad, Memory};

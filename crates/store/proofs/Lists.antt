@@ -1,14 +1,13 @@
 -- What a list that was pushed to has, and a map into which was inserted.
-use Rattle.std.proofs.Common.{◌≡◌, ℕ, zero, suc, ◌+◌, ◌<◌, ◌≤◌, Bool, true, false, cond, not, ◌||◌, eqb, List, length, get_or, drop, sym, refl, ap, ◌∙◌, arith, length-drop}
+use Rattle.std.proofs.Common.{◌≡◌, ℕ, zero, suc, ◌+◌, ◌<◌, ◌≤◌, Bool, true, false, cond, not, ◌||◌, eqb, List, get_or, sym, refl, ap, ◌∙◌, arith}
 use mathlib.Core.Option.{Option, none, some}
-use Rattle.std.proofs.lemmas.List.{length-take-le}
-use Rattle.std.proofs.lemmas.Bool.{and_parts, and_from, cond-true, cond-false, eqb-true, false≢true, eq-eqb, ne_eqb, leb-true}
+use Rattle.std.proofs.lemmas.Bool.{and_parts, and_from, cond-true, cond-false, eqb-true, false≢true, eq-eqb, ne_eqb}
 use Rattle.std.specs.Str.{bytes_eq as same_text}
 use Rattle.meaning.specs.Bytes.{precedes}
 use Rattle.meaning.specs.Value.{Value, Items, Entries, Text, none as none_value, boolean, integer, float, string, list, map, no_items, item, no_entries, entry}
 use Rattle.meaning.specs.Parts.{append, count_items, nth, insert, count_entries, truth, kind}
 use Rattle.store.specs.Values.{pushed, inserted, part_of, entry_in, above_bound, first_in, lower, has_parts, has_entries, goes_last, above_all, ascends}
-use Rattle.store.specs.Cells.{at_span, inside, of_ref}
+use Rattle.store.specs.Cells.{at_span, of_ref}
 use Rattle.store.specs.Shown.{ShowsPush, ShowsInsert}
 use Rattle.store.specs.Kinds.{kind_of, byte_of, size_of}
 use Rattle.store.specs.declared.kinds.Kind.{Kind}
@@ -96,9 +95,6 @@ some_either false x y p q = q
 insert_some : (es : Entries) (k : Text) (v : Value) → 0 < count_entries (insert k v es)
 insert_some no_entries k v = omega arith
 insert_some (entry l w es) k v = some_either (same_text k l) _ _ (omega arith) (some_either (precedes k l) _ _ (omega arith) (omega arith))
-
-pub length_span : (t : Text) (s : TextSpan) → inside (length t) s ≡ true → length (at_span t s) ≡ s.len
-length_span t s h = length-take-le s.len (drop s.start t) (omega (arith, leb-true _ _ h, length-drop s.start t))
 
 pub kind_byte : (v : Value) → byte_of (kind_of v) ≡ kind v
 kind_byte none_value = refl

@@ -16,7 +16,7 @@ pub enum Kind {
 }
 
 impl Kind {
-    /// The command byte of a packed value of this kind.
+    /// The command byte of a packed value of this kind. As a conversion it would not say which byte it is.
     pub fn byte(self) -> u8
         ensures { result ≡ byte_of self }
     {

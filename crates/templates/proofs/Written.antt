@@ -32,9 +32,6 @@ module _ {A : Type 0} where
       let cut = drop-take a (at - a) m in
       grind (arith, common_steps, take-append-le, take-take, length-drop)
 
-  pub read_here : (m p : List A) (at : ℕ) → at ≤ length m → drop at (written m at p) ≡ p ++ drop (at + length p) m
-  read_here m p at room = grind (arith, common_steps)
-
   pub read_behind : (m p : List A) (at a : ℕ) → at ≤ length m → at + length p ≤ a → drop a (written m at p) ≡ drop a m
   read_behind m p at a room h =
       let size = length-take-le at m room in

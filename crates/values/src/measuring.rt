@@ -78,10 +78,8 @@ fn measure_list(
     ensures moves { ValueMoves bytes.now start result }
 {
     let (count, next) = read_u16(bytes, pos).ok_or(Refusal::Malformed(start))?;
-    if levels == 0 {
-        return Err(Refusal::TooDeep(start));
-    }
-    let (mut cost, end) = measure_items(bytes, next, levels - 1, count)?;
+    let below = levels.checked_sub(1).ok_or(Refusal::TooDeep(start))?;
+    let (mut cost, end) = measure_items(bytes, next, below, count)?;
     cost.values += 1;
     Ok((cost, end))
 }
@@ -122,10 +120,10 @@ fn measure_map(
     ensures moves { ValueMoves bytes.now start result }
 {
     let (count, next) = read_u16(bytes, pos).ok_or(Refusal::Malformed(start))?;
-    if levels == 0 {
+    let Some(below) = levels.checked_sub(1) else {
         return Err(refuse_map(bytes, start, next, count));
-    }
-    let (mut cost, end) = measure_entries(bytes, start, next, levels - 1, count)?;
+    };
+    let (mut cost, end) = measure_entries(bytes, start, next, below, count)?;
     cost.values += 1;
     Ok((cost, end))
 }

@@ -45,24 +45,29 @@ measure_list-returns-in_err-count-clause-same t c =
     rw (refused_with c.from_residual.result c.from_residual.ensures.1 none.value none.ok_part)
     (list_cut c.args.levels (length c.args.bytes.now - c.args.start) _ (read.same _))
 
-pub measure_list-returns-then-levels-eq0-clause-same : goal.measure_list-returns-then-levels-eq0-clause-same
-measure_list-returns-then-levels-eq0-clause-same t c =
+pub measure_list-returns-in_err-below-clause-same : goal.measure_list-returns-in_err-below-clause-same
+measure_list-returns-in_err-below-clause-same t c =
     let read = rw c.in_ok-count.ensures.ok_part at c.read_u16.ensures in
-    list_too_deep c.args.levels (length c.args.bytes.now - c.args.start) _ _ _ (read.same _) c.if-levels-eq0.true
+    let none = c.in_err-below.ensures in
+    let zero = rw none.ok_part at c.checked_sub.ensures in
+    rw (refused_with c.from_residual-in_err-below.result c.from_residual-in_err-below.ensures.1 none.value none.ok_part)
+    (list_too_deep c.args.levels (length c.args.bytes.now - c.args.start) _ _ _ (read.same _) (omega (arith, zero)))
 
 pub measure_list-returns-in_err-cost-clause-same : goal.measure_list-returns-in_err-cost-clause-same
 measure_list-returns-in_err-cost-clause-same t c =
     let read = rw c.in_ok-count.ensures.ok_part at c.read_u16.ensures in
-    let some : c.args.levels ≡ suc (c.args.levels - 1) = omega arith in
+    let less = rw c.in_ok-below.ensures.ok_part at c.checked_sub.ensures in
+    let some : c.args.levels ≡ suc c.in_ok-below.below = omega (arith, less) in
     let p = err_from_is_err_and c.from_residual-in_err-cost.result c.from_residual-in_err-cost.ensures.1 in
     rw (p.1, p.2)
-    (list_stops c.args.levels (length c.args.bytes.now - c.args.start) _ _ _ (read.same _) (c.args.levels - 1) some _ _ c.in_err-cost.ensures.same)
+    (list_stops c.args.levels (length c.args.bytes.now - c.args.start) _ _ _ (read.same _) c.in_ok-below.below some _ _ c.in_err-cost.ensures.same)
 
 pub measure_list-returns-clause-same : goal.measure_list-returns-clause-same
 measure_list-returns-clause-same t c =
     let read = rw c.in_ok-count.ensures.ok_part at c.read_u16.ensures in
-    let some : c.args.levels ≡ suc (c.args.levels - 1) = omega arith in
-    list_costs c.args.levels (length c.args.bytes.now - c.args.start) _ _ _ (read.same _) (c.args.levels - 1) some c.in_ok-cost.cost _ c.in_ok-cost.ensures.same
+    let less = rw c.in_ok-below.ensures.ok_part at c.checked_sub.ensures in
+    let some : c.args.levels ≡ suc c.in_ok-below.below = omega (arith, less) in
+    list_costs c.args.levels (length c.args.bytes.now - c.args.start) _ _ _ (read.same _) c.in_ok-below.below some c.in_ok-cost.cost _ c.in_ok-cost.ensures.same
 
 pub measure_items-loop-item-init : goal.measure_items-loop-item-init
 measure_items-loop-item-init t c =
@@ -108,24 +113,27 @@ measure_map-returns-in_err-count-clause-same t c =
     rw (refused_with c.from_residual.result c.from_residual.ensures.1 none.value none.ok_part)
     (map_cut c.args.levels (length c.args.bytes.now - c.args.start) _ (read.same _))
 
-pub measure_map-returns-then-levels-eq0-clause-same : goal.measure_map-returns-then-levels-eq0-clause-same
-measure_map-returns-then-levels-eq0-clause-same t c =
+pub measure_map-returns-in_default-clause-same : goal.measure_map-returns-in_default-clause-same
+measure_map-returns-in_default-clause-same t c =
     let read = rw c.in_ok-count.ensures.ok_part at c.read_u16.ensures in
-    map_too_deep c.args.levels (length c.args.bytes.now - c.args.start) _ _ _ (read.same _) c.if-levels-eq0.true _ _ c.refuse_map.ensures.same
+    let zero = c.in_default.ensures in
+    map_too_deep c.args.levels (length c.args.bytes.now - c.args.start) _ _ _ (read.same _) (omega (arith, zero)) _ _ c.refuse_map.ensures.same
 
 pub measure_map-returns-in_err-cost-clause-same : goal.measure_map-returns-in_err-cost-clause-same
 measure_map-returns-in_err-cost-clause-same t c =
     let read = rw c.in_ok-count.ensures.ok_part at c.read_u16.ensures in
-    let some : c.args.levels ≡ suc (c.args.levels - 1) = omega arith in
+    let less = c.in-Some.ensures in
+    let some : c.args.levels ≡ suc c.in-Some.below = omega (arith, less) in
     let p = err_from_is_err_and c.from_residual-in_err-cost.result c.from_residual-in_err-cost.ensures.1 in
     rw (p.1, p.2)
-    (map_stops c.args.levels (length c.args.bytes.now - c.args.start) _ _ _ (read.same _) (c.args.levels - 1) some _ _ c.in_err-cost.ensures.same)
+    (map_stops c.args.levels (length c.args.bytes.now - c.args.start) _ _ _ (read.same _) c.in-Some.below some _ _ c.in_err-cost.ensures.same)
 
 pub measure_map-returns-clause-same : goal.measure_map-returns-clause-same
 measure_map-returns-clause-same t c =
     let read = rw c.in_ok-count.ensures.ok_part at c.read_u16.ensures in
-    let some : c.args.levels ≡ suc (c.args.levels - 1) = omega arith in
-    map_costs c.args.levels (length c.args.bytes.now - c.args.start) _ _ _ (read.same _) (c.args.levels - 1) some c.in_ok-cost.cost _ c.in_ok-cost.ensures.same
+    let less = c.in-Some.ensures in
+    let some : c.args.levels ≡ suc c.in-Some.below = omega (arith, less) in
+    map_costs c.args.levels (length c.args.bytes.now - c.args.start) _ _ _ (read.same _) c.in-Some.below some c.in_ok-cost.cost _ c.in_ok-cost.ensures.same
 
 pub measure_entries-loop-entry-init : goal.measure_entries-loop-entry-init
 measure_entries-loop-entry-init t c =

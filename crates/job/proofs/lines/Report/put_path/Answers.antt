@@ -1,0 +1,15 @@
+use Rattle.std.proofs.Common.{ap}
+use Rattle.reader.proofs.Members.{turn, no_turn}
+use Rattle.job.specs.Listing.{path}
+use Rattle.job.proofs.Writing.{row_more, row_whole}
+use Rattle.job.proofs.lines.Report.put_path.Goals as goal
+
+pub loop-member-preserved : goal.loop-member-preserved
+loop-member-preserved c =
+    let first = turn c.loop-member.member-iterator c.next.new.self c.next.result c.in-Some.member c.in-Some.is c.next.ensures.steps in
+    row_more _ _ _ _ _ _ (ap (path c.args.source.now c.loop-member.first) first) c.in_ok-put_member.ensures.adds c.loop-member.invariant
+
+pub returns : goal.returns
+returns c =
+    let none = no_turn c.loop-member.member-iterator c.next.new.self c.next.result c.in-None.is c.next.ensures.steps in
+    record { adds = row_whole _ _ _ _ (ap (path c.args.source.now c.loop-member.first) none) c.loop-member.invariant }
