@@ -1,11 +1,14 @@
 //! The tally of a store: the view begins at one, and is put back to a height that it had.
 
 ghost use Rattle.std.specs.Prelude.{◌≡◌};
-ghost use Rattle.store.specs.Stores.{Freed, Height, charged};
+ghost use Rattle.store.specs.Stores.{Freed, Height, charged, supply};
 ghost use Rattle.store.specs.Supplied.{Supplied};
 
 use super::{Store, Tally};
 use crate::cell::Cell;
+
+/// The most cells, and the most bytes, that are used.
+const MOST: usize = 65_535;
 
 impl Tally {
     /// Nothing is in use.
@@ -21,6 +24,16 @@ impl<'m> Store<'m> {
         ensures tally { (result.tally.ghost_name ≡ tally.entry.ghost_name) × (result.tally.now ≡ tally.old) }
     {
         Store { cells, text, tally }
+    }
+
+    /// How many cells and bytes it may use in all.
+    pub fn supply(&self) -> Tally
+        ensures { charged result ≡ supply self.now }
+    {
+        Tally {
+            cells: self.cells.len().min(MOST),
+            bytes: self.text.len().min(MOST),
+        }
     }
 
     /// The height of the tally.

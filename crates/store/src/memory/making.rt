@@ -12,16 +12,14 @@ use super::{Full, Store, Tally};
 use crate::cell::{Cell, Ref, TextSpan};
 use crate::kinds::Kind;
 
-/// The most cells, and the most bytes, that are used.
-const MOST: usize = 65_535;
-
 impl Store<'_> {
     /// Where the next bytes will lie, if the supply holds them and one cell more.
     fn next_span(&self, bytes: &[u8]) -> Result<TextSpan, Full>
         ensures { Placed self.now bytes.now result }
     {
-        let has_room = self.tally.cells < self.cells.len().min(MOST)
-            && bytes.len() <= self.text.len().min(MOST) - self.tally.bytes;
+        let lent = self.supply();
+        let has_room = self.tally.cells < lent.cells
+            && bytes.len() <= lent.bytes - self.tally.bytes;
         if !has_room {
             return Err(Full);
         }

@@ -1,0 +1,4 @@
+mod Parts
+mod Rising
+mod Wholes
+mod Loads

@@ -1,0 +1,6 @@
+//! Packed values, loaded into a store.
+
+#![tactic(auto)]
+
+pub mod building;
+pub mod loading;
