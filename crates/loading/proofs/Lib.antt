@@ -1,4 +1,4 @@
-mod Parts
+pub mod Parts
 mod Rising
 mod Wholes
 mod Loads

@@ -7,23 +7,14 @@ use Rattle.meaning.specs.Or.{Or, fails, gives}
 use Rattle.meaning.specs.Value.{Value}
 use Rattle.packing.specs.Reader.{Outcome, read}
 use Rattle.packing.specs.Unpacking.{answer, unpack_value, value_within}
-use Rattle.store.specs.Stores.{Freed, Height, SameMemory, supply, used}
+use Rattle.store.specs.Stores.{Freed, Height, supply, used}
 use Rattle.store.specs.declared.cell.Ref.{Ref}
 use Rattle.store.specs.declared.memory.Store.{Store}
-use Rattle.store.proofs.Stores.{charge_is, cells_paid, bytes_paid}
+use Rattle.store.proofs.Stores.{charge_is, cells_paid, bytes_paid, same_memory_trans}
 use Rattle.values.specs.Measures.{priced}
 use Rattle.loading.specs.Building.{BuildsValue}
 use Rattle.loading.specs.Loading.{Loads, Holds, loaded}
 use Rattle.loading.proofs.Parts.{supply_same}
-
-memory_on : (a b c : Store) → SameMemory a b → SameMemory b c → SameMemory a c
-memory_on a b c p q = record {
-  cells = q.cells ∙ p.cells;
-  text = q.text ∙ p.text;
-  tally = q.tally ∙ p.tally;
-  cells_long = q.cells_long ∙ p.cells_long;
-  text_long = q.text_long ∙ p.text_long;
-}
 
 -- everything can be freed
 pub bottom : (s : Store) → Height s free
@@ -63,7 +54,7 @@ module _ (before bottom after : Store) (bytes : List ℕ) (most c : Charge) (sam
           let held : within (supply before) (cost v) ≡ true = (λ i. within (sym same i) (sym q i)) ∙ sym fits in
           let built : BuildsValue bottom after (read v []) bytes (Some (r, next)) = subst (λ (o : Outcome Value). BuildsValue bottom after o bytes (Some (r, next))) was h in
           let done : Holds before after v r = record {
-            memory = memory_on before bottom after freed.memory built.0.grown.over.memory;
+            memory = same_memory_trans before bottom after freed.memory built.0.grown.over.memory;
             paid = built.0.grown.paid ∙ empty_under (cost v);
             known = built.0.known;
             means = built.0.means;

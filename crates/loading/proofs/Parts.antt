@@ -27,7 +27,7 @@ pub supply_same : (a b : Store) → SameMemory a b → supply a ≡ supply b
 supply_same a b m = charge_is (ap (min 65535) (sym m.cells_long)) (ap (min 65535) (sym m.text_long))
 
 -- what passes a supply passes it with more
-passes_more : (most u more : Charge) → within most u ≡ false → within most (u ⊕ more) ≡ false
+pub passes_more : (most u more : Charge) → within most u ≡ false → within most (u ⊕ more) ≡ false
 passes_more most u more h = by (within most (u ⊕ more)) refl
   where
     by : (b : Bool) → within most (u ⊕ more) ≡ b → within most (u ⊕ more) ≡ false

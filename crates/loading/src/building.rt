@@ -2,35 +2,19 @@
 //! not told apart from what the supply does not hold.
 
 ghost use Rattle.std.specs.Prelude.{◌≡◌, ℕ, true, drop};
-ghost use Rattle.meaning.specs.Charge.{cost};
 ghost use Rattle.packing.specs.Commands.{list_byte, map_byte};
 ghost use Rattle.packing.specs.Limits.{no_key};
 ghost use Rattle.packing.specs.Unpacking.{entries, items, literal_value, value_within};
-ghost use Rattle.reader.specs.Meanings.{plain_of};
 ghost use Rattle.store.specs.Kinds.{kind_of};
-ghost use Rattle.store.specs.Stores.{Known, Made, Over, value};
+ghost use Rattle.store.specs.Stores.{Known, Over, value};
 ghost use Rattle.values.specs.Measures.{rest_within};
 ghost use Rattle.loading.specs.Building.{BuildsEntries, BuildsItems, BuildsValue, BuiltKnown};
 
 use reader::field::{read_byte, read_text, read_u16};
-use reader::literal::{PlainValue, plain_value};
+use reader::literal::plain_value;
 use store::cell::Ref;
 use store::kinds::Kind;
-use store::memory::{Full, Store};
-
-/// Makes a value without parts.
-fn make_plain(store: &mut Store, value: PlainValue) -> Result<Ref, Full>
-    ensures { Made store.old store.new (cost (plain_of value.entry)) (plain_of value.entry) result }
-{
-    match value {
-        PlainValue::Nothing => Ok(Ref::None),
-        PlainValue::False => store.make_boolean(false),
-        PlainValue::True => store.make_boolean(true),
-        PlainValue::Integer(n) => store.make_integer(n),
-        PlainValue::Float(bits) => store.make_float(bits),
-        PlainValue::String(bytes) => store.make_string(bytes),
-    }
-}
+use store::memory::Store;
 
 /// The value at `pos`, which has no parts.
 fn build_plain(store: &mut Store, bytes: &[u8], pos: usize) -> Option<(Ref, usize)>
@@ -39,13 +23,13 @@ fn build_plain(store: &mut Store, bytes: &[u8], pos: usize) -> Option<(Ref, usiz
     ensures known { BuiltKnown store.new result }
 {
     let (plain, next) = plain_value(bytes, pos)?;
-    let value = make_plain(store, plain).ok()?;
+    let value = store.make_plain(plain).ok()?;
     Some((value, next))
 }
 
 /// The value at `pos`, which may have so many levels, and the position after it.
 #[cycle(parts)]
-pub(crate) fn build_value(
+pub fn build_value(
     store: &mut Store,
     bytes: &[u8],
     pos: usize,

@@ -1,6 +1,7 @@
 mod Keys
-mod Maps
+pub mod Maps
 pub mod Lists
 pub mod Cells
 pub mod Stores
 mod Ordered
+pub mod Jumps

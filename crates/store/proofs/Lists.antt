@@ -6,14 +6,16 @@ use Rattle.std.specs.Str.{bytes_eq as same_text}
 use Rattle.meaning.specs.Bytes.{precedes}
 use Rattle.meaning.specs.Value.{Value, Items, Entries, Text, none as none_value, boolean, integer, float, string, list, map, no_items, item, no_entries, entry}
 use Rattle.meaning.specs.Parts.{append, count_items, nth, insert, count_entries, truth, kind}
-use Rattle.store.specs.Values.{pushed, inserted, part_of, entry_in, above_bound, first_in, lower, has_parts, has_entries, goes_last, above_all, ascends}
+use Rattle.store.specs.Values.{pushed, inserted, part_of, entry_in, entry_at, above_bound, first_in, any_above, lower, has_parts, has_entries, goes_last, above_all, ascends}
 use Rattle.store.specs.Cells.{at_span, of_ref}
+use Rattle.store.specs.Jumps.{Begins}
 use Rattle.store.specs.Shown.{ShowsPush, ShowsInsert}
 use Rattle.store.specs.Kinds.{kind_of, byte_of, size_of}
 use Rattle.store.specs.declared.kinds.Kind.{Kind}
 use Rattle.store.specs.declared.cell.TextSpan.{TextSpan}
 use Rattle.store.specs.declared.cell.Ref.{Ref}
-use Rattle.store.proofs.Maps.{is_some, value_of_insert, count_insert, ascends_insert, first_above_insert, lower_assoc}
+use Rattle.store.proofs.Keys.{precedes_back, differs_back}
+use Rattle.store.proofs.Maps.{is_some, value_of_insert, count_insert, ascends_insert, first_above_insert, lower_assoc, lower_some, lower_none, none_last, first_none, nth_entry_past, nth_last, nth_under_last, count_last, above_all_last}
 
 pub count_append : (xs : Items) (v : Value) → count_items (append xs v) ≡ count_items xs + 1
 count_append no_items v = refl
@@ -88,6 +90,25 @@ module _ {i : ℕ} {ms : List Value} {front : ℕ} {part : Ref} {len jump : ℕ}
   pub push_size : len ≡ size_of v
   push_size = sym (ap size_of p.value_is ∙ count_append p.items (of_ref ms part) ∙ p.counted)
 
+-- a part of a list that begins with that one
+pub jump_part : {v w : Value} → Begins v w → (n : ℕ) → n < size_of v → part_of v n ≡ part_of w n
+jump_part b n h = sym (b.parts n h)
+
+-- what is found in a map from where a sorted one jumps to
+module _ (ms : List Value) (jump i : ℕ) (sorted : Bool) (v : Value) (b : Begins (get_or ms (cond sorted jump i) none_value) v) (s : sorted ≡ true) where
+  begins_at : Begins (get_or ms jump none_value) v
+  begins_at = rw s at b
+
+  pub jump_key : (q : Text) → any_above (get_or ms jump none_value) (some q) ≡ true → entry_in (get_or ms jump none_value) q ≡ entry_in v q
+  jump_key q h = sym (begins_at.keys q h)
+
+  pub jump_first : (a : Option Text) → any_above (get_or ms jump none_value) a ≡ true → (best : Option (Text × Value)) → lower best (first_in (get_or ms jump none_value) a) ≡ lower best (first_in v a)
+  jump_first a h best = sym (ap (lower best) (begins_at.firsts a h))
+
+-- an entry of a map that begins with that one
+pub jump_entry : {v w : Value} → Begins v w → (n : ℕ) → n < size_of v → entry_at v n ≡ entry_at w n
+jump_entry b n h = sym (b.entries n h)
+
 some_either : (b : Bool) (x y : Entries) → 0 < count_entries x → 0 < count_entries y → 0 < count_entries (cond b x y)
 some_either true x y p q = p
 some_either false x y p q = q
@@ -118,6 +139,10 @@ pushed_counts (map es) v h = cc
 -- a map into which is inserted has one entry more unless it has the key
 pub inserted_counts : (f : Value) (es : Entries) (k : Text) (v : Value) → f ≡ map es → ascends es ≡ true → has_entries (size_of f + cond (is_some (entry_in f k)) 0 1) (inserted f k v) ≡ true
 inserted_counts f es k v e a = rw e (and_from _ _ (eq-eqb _ _ (count_insert es k v a)) (ascends_insert es k v a))
+
+-- and one entry more if the key is above all others
+pub last_counts : (f : Value) (es : Entries) (k : Text) (v : Value) → f ≡ map es → ascends es ≡ true → goes_last k f ≡ true → has_entries (size_of f + 1) (inserted f k v) ≡ true
+last_counts f es k v e a h = rw e (and_from _ _ (eq-eqb _ _ (count_last es k v (rw e at h))) (ascends_insert es k v a))
 
 module _ {t : Text} {i : ℕ} {ms : List Value} {front : ℕ} {key : TextSpan} {part : Ref} {len jump : ℕ} {sorted : Bool} {v : Value} (p : ShowsInsert t i ms front key part len jump sorted v) where
   pub insert_true : truth v ≡ true
@@ -150,3 +175,36 @@ module _ {t : Text} {i : ℕ} {ms : List Value} {front : ℕ} {key : TextSpan} {
 
   pub next_miss : (a : Option Text) → above_bound a (at_span t key) ≡ false → (best : Option (Text × Value)) → lower best (first_in (get_or ms front none_value) a) ≡ lower best (first_in v a)
   next_miss a h best = sym (ap (lower best) (insert_first a ∙ cond-false (above_bound a (at_span t key)) _ _ h))
+
+  -- a newest key above a bound
+  pub insert_any : (a : Option Text) → above_bound a (at_span t key) ≡ true → any_above v a ≡ true
+  insert_any a h =
+      ap (λ (o : Option (Text × Value)). elim o [ none ↦ false | some e ↦ true ]) (insert_first a ∙ cond-true (above_bound a (at_span t key)) _ _ h)
+      ∙ lower_some _ (first_in (get_or ms front none_value) a)
+
+  -- WHERE THE KEY WENT IN ABOVE THE OTHERS
+
+  pub insert_past : sorted ≡ true → (q : Text) → precedes (at_span t key) q ≡ true → entry_in v q ≡ none
+  insert_past s q h =
+      sym (insert_miss q (differs_back (at_span t key) q h))
+      ∙ rw p.front_is (none_last p.entries (at_span t key) q (p.last s) (precedes_back (at_span t key) q h))
+
+  pub next_stop : sorted ≡ true → (a : Option Text) → above_bound a (at_span t key) ≡ false → (best : Option (Text × Value)) → best ≡ lower best (first_in v a)
+  next_stop s a h best =
+      let gone : first_in v a ≡ none = insert_first a ∙ cond-false (above_bound a (at_span t key)) _ _ h ∙ rw p.front_is (first_none p.entries (at_span t key) a (p.last s) h) in
+      rw gone (lower_none best)
+
+  pub entry_past : (n : ℕ) → len ≤ n → entry_at v n ≡ none
+  entry_past n h = rw p.value_is (nth_entry_past _ n (omega (arith, p.counted)))
+
+  pub entry_top : sorted ≡ true → (n : ℕ) → n + 1 ≡ len → entry_at v n ≡ some (at_span t key, of_ref ms part)
+  entry_top s n h = rw p.value_is (nth_last p.entries (at_span t key) (of_ref ms part) n (p.last s) (omega (arith, p.counted, count_last p.entries (at_span t key) (of_ref ms part) (p.last s))))
+
+  pub entry_low : sorted ≡ true → (n : ℕ) → n + 1 < len → entry_at (get_or ms front none_value) n ≡ entry_at v n
+  entry_low s n h =
+      rw (p.front_is, p.value_is)
+      (sym (nth_under_last p.entries (at_span t key) (of_ref ms part) n (p.last s) (omega (arith, p.counted, count_last p.entries (at_span t key) (of_ref ms part) (p.last s)))))
+
+  -- a key above the newest one is above all
+  pub insert_under : sorted ≡ true → (q : Text) → precedes (at_span t key) q ≡ true → goes_last q v ≡ true
+  insert_under s q h = rw p.value_is (above_all_last p.entries (at_span t key) q (of_ref ms part) (p.last s) h)

@@ -1,12 +1,12 @@
 -- A map into which was inserted: what it has at a key, how many entries, and in which order.
-use Rattle.std.proofs.Common.{◌≡◌, suc, ◌+◌, Bool, true, false, cond, sym, refl, ◌∙◌, arith}
+use Rattle.std.proofs.Common.{◌≡◌, ℕ, zero, suc, ◌<◌, ◌≤◌, ap, ◌+◌, Bool, true, false, cond, sym, refl, ◌∙◌, arith}
 use mathlib.Core.Option.{Option, none, some}
 use Rattle.std.proofs.lemmas.Bool.{and_parts, and_from, true≢false}
 use Rattle.std.specs.Str.{bytes_eq as same_text}
 use Rattle.meaning.specs.Bytes.{precedes}
-use Rattle.meaning.specs.Value.{Value, Entries, Text, no_entries, entry}
+use Rattle.meaning.specs.Value.{Value, Entries, Text, map, no_entries, entry}
 use Rattle.meaning.specs.Parts.{insert, value_of, count_entries}
-use Rattle.store.specs.Values.{above_bound, first_above, lower, starts_above, ascends}
+use Rattle.store.specs.Values.{nth_entry, above_bound, first_above, any_above, lower, starts_above, ascends, above_all}
 use Rattle.store.proofs.Keys.{Side, before, at, behind, side, same_is, same_itself, precedes_trans, precedes_differs, precedes_back, differs_back, precedes_itself}
 
 -- how an insertion goes at the first entry
@@ -109,6 +109,18 @@ first_above_insert (entry l w es) k v a = by (side k l) (above_bound a k) refl (
     by (behind h) false f true g ih = absurd (true≢false (sym (above_more a l k g h) ∙ f))
     by (behind h) false f false g ih = rw (insert_behind k l v w es h, g, ih)
 
+pub lower_some : (e : Text × Value) (f : Option (Text × Value)) → elim (lower (some e) f) [ none ↦ false | some e ↦ true ] ≡ true
+lower_some e none = refl
+lower_some e (some f) = by (precedes f.0 e.0)
+  where
+    by : (o : Bool) → elim (cond {A = Option (Text × Value)} o (some f) (some e)) [ none ↦ false | some e ↦ true ] ≡ true
+    by true = refl
+    by false = refl
+
+pub lower_none : (best : Option (Text × Value)) → best ≡ lower best none
+lower_none none = refl
+lower_none (some e) = refl
+
 -- the lowest of three entries, by either pair first
 pub lower_assoc : (x y z : Option (Text × Value)) → lower x (lower y z) ≡ lower (lower x y) z
 lower_assoc none y z = refl
@@ -136,3 +148,102 @@ lower_assoc (some b) (some e) (some l) = by (precedes e.0 b.0) refl (precedes l.
     by true p false q = rw (p, q)
     by false p true q = refl
     by false p false q = rw (p, not_before b.0 e.0 l.0 p q)
+
+-- A KEY ABOVE ALL OTHERS
+
+-- with the entry behind the others
+abbrev pub behind_all : Entries → Text → Value → Entries
+behind_all no_entries k v = entry k v no_entries
+behind_all (entry l w es) k v = entry l w (behind_all es k v)
+
+pub insert_last : (es : Entries) (k : Text) (v : Value) → above_all k es ≡ true → insert k v es ≡ behind_all es k v
+insert_last no_entries k v h = refl
+insert_last (entry l w es) k v h =
+    let p = and_parts (precedes l k) _ h in
+    rw (insert_behind k l v w es p.0) (ap (entry l w) (insert_last es k v p.1))
+
+count_behind : (es : Entries) (k : Text) (v : Value) → count_entries (behind_all es k v) ≡ count_entries es + 1
+count_behind no_entries k v = refl
+count_behind (entry l w es) k v = omega (arith, count_behind es k v)
+
+pub count_last : (es : Entries) (k : Text) (v : Value) → above_all k es ≡ true → count_entries (insert k v es) ≡ count_entries es + 1
+count_last es k v h = rw (insert_last es k v h) (count_behind es k v)
+
+nth_behind : (es : Entries) (k : Text) (v : Value) (n : ℕ) → n < count_entries es → nth_entry (behind_all es k v) n ≡ nth_entry es n
+nth_behind no_entries k v n l = absurd (omega arith)
+nth_behind (entry j w es) k v zero l = refl
+nth_behind (entry j w es) k v (suc n) l = nth_behind es k v n (omega arith)
+
+-- the entries under it by their numbers
+pub nth_under_last : (es : Entries) (k : Text) (v : Value) (n : ℕ) → above_all k es ≡ true → n < count_entries es → nth_entry (insert k v es) n ≡ nth_entry es n
+nth_under_last es k v n h l = rw (insert_last es k v h) (nth_behind es k v n l)
+
+nth_behind_top : (es : Entries) (k : Text) (v : Value) (n : ℕ) → n ≡ count_entries es → nth_entry (behind_all es k v) n ≡ some (k, v)
+nth_behind_top no_entries k v zero l = refl
+nth_behind_top no_entries k v (suc n) l = absurd (omega arith)
+nth_behind_top (entry j w es) k v zero l = absurd (omega arith)
+nth_behind_top (entry j w es) k v (suc n) l = nth_behind_top es k v n (omega arith)
+
+pub nth_last : (es : Entries) (k : Text) (v : Value) (n : ℕ) → above_all k es ≡ true → n ≡ count_entries es → nth_entry (insert k v es) n ≡ some (k, v)
+nth_last es k v n h l = rw (insert_last es k v h) (nth_behind_top es k v n l)
+
+pub nth_entry_past : (es : Entries) (n : ℕ) → count_entries es ≤ n → nth_entry es n ≡ none
+nth_entry_past no_entries n l = refl
+nth_entry_past (entry k v es) zero l = absurd (omega arith)
+nth_entry_past (entry k v es) (suc n) l = nth_entry_past es n (omega arith)
+
+-- a key below one of the others is below it
+pub under_last : (es : Entries) (k q : Text) → above_all k es ≡ true → any_above (map es) (some q) ≡ true → precedes q k ≡ true
+under_last no_entries k q h g = cc
+under_last (entry l w es) k q h g =
+    let p = and_parts (precedes l k) _ h in
+    by (precedes q l) refl p.0 g (under_last es k q p.1)
+  where
+    by : (b : Bool) → precedes q l ≡ b → precedes l k ≡ true → elim (cond {A = Option (Text × Value)} b (some (l, w)) (first_above es (some q))) [ none ↦ false | some e ↦ true ] ≡ true → (any_above (map es) (some q) ≡ true → precedes q k ≡ true) → precedes q k ≡ true
+    by true e p g again = precedes_trans q l k e p
+    by false e p g again = again g
+
+first_behind : (es : Entries) (k : Text) (v : Value) (a : Option Text) → any_above (map es) a ≡ true → first_above (behind_all es k v) a ≡ first_above es a
+first_behind no_entries k v a g = cc
+first_behind (entry l w es) k v a g = by (above_bound a l) g (first_behind es k v a)
+  where
+    by : (b : Bool) → elim (cond {A = Option (Text × Value)} b (some (l, w)) (first_above es a)) [ none ↦ false | some e ↦ true ] ≡ true → (any_above (map es) a ≡ true → first_above (behind_all es k v) a ≡ first_above es a) → cond b (some (l, w)) (first_above (behind_all es k v) a) ≡ cond b (some (l, w)) (first_above es a)
+    by true g again = refl
+    by false g again = again g
+
+-- the first of the others above a bound
+pub first_under_last : (es : Entries) (k : Text) (v : Value) (a : Option Text) → above_all k es ≡ true → any_above (map es) a ≡ true → first_above (insert k v es) a ≡ first_above es a
+first_under_last es k v a h g = rw (insert_last es k v h) (first_behind es k v a g)
+
+-- neither it nor a key above it is among the others
+pub none_last : (es : Entries) (k q : Text) → above_all k es ≡ true → above_bound (some q) k ≡ false → value_of es q ≡ none
+none_last no_entries k q h b = refl
+none_last (entry l w es) k q h b =
+    let p = and_parts (precedes l k) _ h in
+    rw (by (side q l)) (none_last es k q p.1 b)
+  where
+    by : Side q l → same_text q l ≡ false
+    by (before g) = absurd (true≢false (sym (precedes_trans q l k g (and_parts (precedes l k) _ h).0) ∙ b))
+    by (at e) = absurd (true≢false (sym (rw e (and_parts (precedes l k) _ h).0) ∙ b))
+    by (behind g) = differs_back l q g
+
+-- none of the others is above a bound that it is not above
+pub first_none : (es : Entries) (k : Text) (a : Option Text) → above_all k es ≡ true → above_bound a k ≡ false → first_above es a ≡ none
+first_none no_entries k a h b = refl
+first_none (entry l w es) k a h b =
+    let p = and_parts (precedes l k) _ h in
+    rw (by (above_bound a l) refl p.0) (first_none es k a p.1 b)
+  where
+    by : (c : Bool) → above_bound a l ≡ c → precedes l k ≡ true → above_bound a l ≡ false
+    by true e g = absurd (true≢false (sym (above_more a l k e g) ∙ b))
+    by false e g = e
+
+pub above_all_behind : (es : Entries) (k q : Text) (v : Value) → above_all k es ≡ true → precedes k q ≡ true → above_all q (behind_all es k v) ≡ true
+above_all_behind no_entries k q v h g = and_from _ _ g refl
+above_all_behind (entry l w es) k q v h g =
+    let p = and_parts (precedes l k) _ h in
+    and_from _ _ (precedes_trans l k q p.0 g) (above_all_behind es k q v p.1 g)
+
+-- a key above it is above all
+pub above_all_last : (es : Entries) (k q : Text) (v : Value) → above_all k es ≡ true → precedes k q ≡ true → above_all q (insert k v es) ≡ true
+above_all_last es k q v h g = rw (insert_last es k v h) (above_all_behind es k q v h g)

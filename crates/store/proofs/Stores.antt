@@ -1,5 +1,5 @@
 -- What changes of a store come to: one cell more, one change after another, and back to a height.
-use Rattle.std.proofs.Common.{◌≡◌, ℕ, ◌+◌, ◌<◌, ◌≤◌, min, true, cond, leb, List, [], ◌∷◌, ◌++◌, length, get_or, take, Some, None, Ok, Err, Result, sym, refl, ap, ◌∙◌, subst, le_trans, arith}
+use Rattle.std.proofs.Common.{◌≡◌, ℕ, ◌+◌, ◌<◌, ◌≤◌, min, Bool, true, cond, not, ◌||◌, leb, List, [], ◌∷◌, ◌++◌, length, get_or, take, Some, None, Ok, Err, Result, sym, refl, ap, ◌∙◌, subst, le_trans, arith}
 use mathlib.Core.Option.{Option, none, some}
 use native.Mathlib.Nat.{min-le_left, min-le_right}
 use Rattle.std.proofs.lemmas.List.{length-take, length-take-le, take_at, take-take, take_all, get_or_default, get_or-take}
@@ -7,7 +7,7 @@ use Rattle.std.proofs.lemmas.Bool.{and_parts, leb-true, lt-ltb, ltb-true}
 use Rattle.std.specs.declared.option.Option as code
 use Rattle.meaning.specs.Charge.{Charge, ◌⊕◌, cell_and_text, within}
 use Rattle.meaning.specs.Value.{Value, Entries, Text, none as none_value, map}
-use Rattle.store.specs.Values.{entry_in, has_entries, inserted, ascends}
+use Rattle.store.specs.Values.{entry_in, goes_last, has_entries, inserted, ascends}
 use Rattle.store.specs.Cells.{of_ref, of_cell, meanings, fits}
 use Rattle.store.specs.Kinds.{kind_of, size_of}
 use Rattle.store.specs.Shown.{Shows}
@@ -20,7 +20,7 @@ use Rattle.store.specs.declared.cell.Ref.TheVariants.{None as Nothing, At}
 use Rattle.store.specs.declared.memory.Full.{Full}
 use Rattle.store.specs.declared.memory.Store.{Store}
 use Rattle.store.proofs.Cells.{Agree, Extended, extended, shows, map_shown, sound_at, persist}
-use Rattle.store.proofs.Lists.{inserted_counts}
+use Rattle.store.proofs.Lists.{inserted_counts, last_counts}
 use Rattle.store.proofs.Maps.{is_some}
 
 -- CHARGES
@@ -137,6 +137,13 @@ counts_with s i k r n l m f e v =
     let g = get_or (values_of s) i none_value in
     rw (e, ← found_same s (entry_in g k) r f) (inserted_counts g p.0 k v p.1 p.2)
 
+-- the count of a map with a key above all others
+pub counts_last : (s : Store) (i : ℕ) (k : Text) (last : Bool) (n : ℕ) → i < (used s).cells → kind_of (get_or (values_of s) i none_value) ≡ Kind.Map → (not last || goes_last k (get_or (values_of s) i none_value)) ≡ true → last ≡ true → n ≡ size_of (get_or (values_of s) i none_value) + 1 → (v : Value) → has_entries n (inserted (get_or (values_of s) i none_value) k v) ≡ true
+counts_last s i k last n l m g t e v =
+    let p = store_map s i l m in
+    let f = get_or (values_of s) i none_value in
+    rw e (last_counts f p.0 k v p.1 p.2 (rw t at g))
+
 -- BACK TO A HEIGHT
 
 -- what was grown from a store can be put back to it
@@ -147,7 +154,7 @@ over_height old s o = record {
   sound = sound_at o.text_under o.cells_under old.supplied.sound;
 }
 
-same_memory_trans : (a b c : Store) → SameMemory a b → SameMemory b c → SameMemory a c
+pub same_memory_trans : (a b c : Store) → SameMemory a b → SameMemory b c → SameMemory a c
 same_memory_trans a b c p q = record {
   cells = q.cells ∙ p.cells;
   text = q.text ∙ p.text;

@@ -1,6 +1,7 @@
 -- What a store holds, and what making a value does to it.
 use Rattle.std.specs.Prelude.{◌≡◌, ℕ, ◌≤◌, min, true, false, List, length, take, Some, None, Ok, Err, Result}
 use Rattle.std.proofs.Math.Option.{Option, none, some}
+use Rattle.std.specs.Borrow.{Bor}
 use Rattle.std.specs.declared.option.Option as code
 use Rattle.meaning.specs.Value.{Value, Text, none as none_value}
 use Rattle.meaning.specs.Charge.{Charge, ◌⊕◌, cell_and_text, within}
@@ -135,6 +136,11 @@ shown s (Some e) = some (entry_shown s e)
 abbrev pub key_shown : Store → code.Option TextSpan → Option Text
 key_shown s None = none
 key_shown s (Some k) = some (at_span (text_of s) k)
+
+-- a key lent as a bound, if any
+abbrev pub bound_now : code.Option (Bor Text) → Option Text
+bound_now None = none
+bound_now (Some k) = some k.now
 
 -- the span lies in the text in use
 abbrev pub KeyKnown : Store → TextSpan → Type 0

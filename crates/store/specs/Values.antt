@@ -43,6 +43,10 @@ first_above (entry k v es) bound = cond (above_bound bound k) (some (k, v)) (fir
 abbrev pub first_in : Value → Option Text → Option (Text × Value)
 first_in v bound = elim (shape v) [ of_items xs ↦ none | of_entries es ↦ first_above es bound | single ↦ none ]
 
+-- whether some key is above the bound
+abbrev pub any_above : Value → Option Text → Bool
+any_above v bound = elim (first_in v bound) [ none ↦ false | some e ↦ true ]
+
 -- of two entries the one with the lower key, and the first where the keys are the same
 abbrev pub lower : Option (Text × Value) → Option (Text × Value) → Option (Text × Value)
 lower none f = f

@@ -17,7 +17,7 @@ pub struct TextSpan {
 }
 
 /// A list or map grows by one new cell over the old one, which stays as it is.
-/// `jump` is a cell further down the same list or map, by which a part is found in few steps.
+/// `jump` is a cell further down the same list, or the same map where that is sorted, by which a part is found in few steps.
 #[derive(Clone, Copy)]
 pub enum Cell {
     Boolean(bool),
@@ -35,7 +35,7 @@ pub enum Cell {
     },
     EmptyMap,
     /// The map in the cell `front` with `part` under `key`: `len` entries in all.
-    /// `sorted` says that each key went in above the ones before it.
+    /// `sorted` says that the key went in above all those before it.
     Insert {
         front: u16,
         key: TextSpan,

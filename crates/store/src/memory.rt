@@ -6,6 +6,7 @@ use crate::cell::Cell;
 
 pub mod height;
 pub mod in_order;
+pub mod jumping;
 pub mod making;
 pub mod reading;
 

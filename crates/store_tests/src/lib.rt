@@ -3,3 +3,5 @@
 #![tactic(auto)]
 
 mod owner;
+#[cfg(test)]
+mod tests;

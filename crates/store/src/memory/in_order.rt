@@ -1,10 +1,10 @@
 //! The entries of a map in ascending order of their keys.
 
 ghost use Rattle.std.proofs.Math.Option.{some};
-ghost use Rattle.std.specs.Prelude.{◌≡◌, Some};
-ghost use Rattle.store.specs.Cells.{at_span};
-ghost use Rattle.store.specs.Stores.{BoundKnown, EntryKnown, KeyKnown, Known, entry_shown, key_shown, shown, text_of, value};
-ghost use Rattle.store.specs.Values.{above_bound, entry_at, first_in, lower};
+ghost use Rattle.std.specs.Prelude.{◌≡◌, ◌<◌, Some, true, slice_index_or};
+ghost use Rattle.meaning.specs.Value.{none};
+ghost use Rattle.store.specs.Stores.{BoundKnown, EntryKnown, KeyKnown, Known, bound_now, entry_shown, key_shown, shown, text_of, used, value, values_of};
+ghost use Rattle.store.specs.Values.{above_bound, any_above, entry_at, first_in, lower};
 
 use super::Store;
 use crate::cell::{Cell, Entry, Ref, TextSpan};
@@ -12,8 +12,42 @@ use values::key::is_before;
 
 impl Store<'_> {
     /// The entry of a map with that number in the order of keys, counted from 0.
-    #[tactic(auto, using(crate::proofs::Ordered::first_at, crate::proofs::Ordered::past_at))]
+    #[tactic(auto, using(crate::proofs::Lists::entry_past, crate::proofs::Lists::entry_top, crate::proofs::Lists::entry_low, crate::proofs::Lists::jump_entry))]
     pub fn entry(&self, r: Ref, number: usize) -> Option<Entry>
+        requires { Known self.now r }
+        ensures same { shown self.now result ≡ entry_at (value self.now r) number }
+        ensures known { EntryKnown self.now result }
+    {
+        let Ref::At(mut here) = r else {
+            return None;
+        };
+        while let Cell::Insert {
+            front,
+            key,
+            part,
+            len,
+            jump,
+            sorted: true,
+        } = self.cell(here)
+        {
+            if number >= len as usize {
+                return None;
+            }
+            if number + 1 == len as usize {
+                return Some(Entry { key, value: part });
+            }
+            here = if number < self.size_at(jump) as usize {
+                jump
+            } else {
+                front
+            };
+        }
+        self.entry_after_others(Ref::At(here), number)
+    }
+
+    /// The same by going over the entries before it.
+    #[tactic(auto, using(crate::proofs::Ordered::first_at, crate::proofs::Ordered::past_at))]
+    fn entry_after_others(&self, r: Ref, number: usize) -> Option<Entry>
         requires { Known self.now r }
         ensures same { shown self.now result ≡ entry_at (value self.now r) number }
         ensures known { EntryKnown self.now result }
@@ -26,8 +60,8 @@ impl Store<'_> {
     }
 
     /// The first entry of a map whose key is above `after`, or the first of all.
-    #[tactic(auto, using(crate::proofs::Lists::next_hit, crate::proofs::Lists::next_miss))]
-    fn next_entry(&self, r: Ref, after: Option<TextSpan>) -> Option<Entry>
+    #[tactic(auto, using(crate::proofs::Lists::next_hit, crate::proofs::Lists::next_miss, crate::proofs::Lists::next_stop, crate::proofs::Lists::jump_first))]
+    pub fn next_entry(&self, r: Ref, after: Option<TextSpan>) -> Option<Entry>
         requires map_known { Known self.now r }
         requires after_known { BoundKnown self.now after }
         ensures same { shown self.now result ≡ first_in (value self.now r) (key_shown self.now after) }
@@ -36,30 +70,53 @@ impl Store<'_> {
         let Ref::At(mut here) = r else {
             return None;
         };
+        let bound = self.bound(after);
         let mut best = None;
         while let Cell::Insert {
             front,
             key,
             part,
+            jump,
+            sorted,
             ..
         } = self.cell(here)
         {
-            if self.is_above(key, after) {
-                best = self.lower(best, Entry { key, value: part });
+            let above = is_above(self.text_at(key), bound);
+            if sorted && !above {
+                return best;
             }
-            here = front;
+            if sorted && self.newest_is_above(jump, bound) {
+                here = jump;
+            } else {
+                if above {
+                    best = self.lower(best, Entry { key, value: part });
+                }
+                here = front;
+            }
         }
         best
     }
 
-    fn is_above(&self, key: TextSpan, after: Option<TextSpan>) -> bool
-        requires key_known { KeyKnown self.now key }
-        requires after_known { BoundKnown self.now after }
-        ensures { result ≡ above_bound (key_shown self.now after) (at_span (text_of self.now) key) }
+    /// The bytes of a bound.
+    fn bound(&self, after: Option<TextSpan>) -> Option<&[u8]>
+        requires { BoundKnown self.now after }
+        ensures { bound_now result ≡ key_shown self.now after }
     {
         match after {
-            None => true,
-            Some(bound) => is_before(self.text_at(bound), self.text_at(key)),
+            None => None,
+            Some(span) => Some(self.text_at(span)),
+        }
+    }
+
+    /// Whether a cell holds a map whose newest key is above the bound.
+    #[tactic(auto, using(crate::proofs::Lists::insert_any))]
+    pub(super) fn newest_is_above(&self, at: u16, bound: Option<&[u8]>) -> bool
+        requires { at < (used self.now).cells }
+        ensures { result ≡ true → any_above (slice_index_or (values_of self.now) at none) (bound_now bound.entry) ≡ true }
+    {
+        match self.cell(at) {
+            Cell::Insert { key, .. } => is_above(self.text_at(key), bound),
+            _ => false,
         }
     }
 
@@ -78,5 +135,14 @@ impl Store<'_> {
         } else {
             newer
         }
+    }
+}
+
+fn is_above(key: &[u8], bound: Option<&[u8]>) -> bool
+    ensures { result ≡ above_bound (bound_now bound.entry) key.now }
+{
+    match bound {
+        None => true,
+        Some(under) => is_before(under, key),
     }
 }

@@ -1,16 +1,20 @@
 //! Making values: each answers a reference to the value made, or that the supply is full.
 
-ghost use Rattle.std.specs.Prelude.{◌≡◌, ◌+◌, ◌<◌, ◌≤◌, true, ◌++◌, length, take, slice_index_or};
+ghost use Rattle.std.specs.Prelude.{◌≡◌, ◌+◌, ◌<◌, ◌≤◌, true, not, ◌||◌, ◌++◌, length, take, slice_index_or};
 ghost use Rattle.meaning.specs.Charge.{◌⊕◌, cell_and_text, cost, one_cell, within};
 ghost use Rattle.meaning.specs.Value.{Value, boolean, float, integer, list as the_list, map as the_map, no_entries, no_items, none, string};
+ghost use Rattle.reader.specs.Meanings.{plain_of};
 ghost use Rattle.store.specs.Cells.{at_span, fits, of_cell};
+ghost use Rattle.store.specs.Jumps.{jumps};
 ghost use Rattle.store.specs.Kinds.{kind_of};
-ghost use Rattle.store.specs.Stores.{Added, KeyKnown, Known, Made, Placed, supply, text_of, used, value, values_of};
-ghost use Rattle.store.specs.Values.{has_entries, inserted, pushed};
+ghost use Rattle.store.specs.Stores.{Added, KeyKnown, Known, Made, Placed, cells_of, supply, text_of, used, value, values_of};
+ghost use Rattle.store.specs.Values.{goes_last, has_entries, inserted, pushed};
 
 use super::{Full, Store, Tally};
 use crate::cell::{Cell, Ref, TextSpan};
 use crate::kinds::Kind;
+use reader::literal::PlainValue;
+use values::key::is_before;
 
 impl Store<'_> {
     /// Where the next bytes will lie, if the supply holds them and one cell more.
@@ -33,6 +37,7 @@ impl Store<'_> {
     fn add(&mut self, cell: Cell, bytes: &[u8]) -> Ref
         requires room { within (supply self.old) (used self.old ⊕ cell_and_text bytes.now) ≡ true }
         requires fit { fits (text_of self.old ++ bytes.now) (used self.old).cells (values_of self.old) cell ≡ true }
+        requires jump { jumps (cells_of self.old) cell ≡ true }
         ensures { Added self.old self.new (cell_and_text bytes.now) (of_cell (text_of self.old ++ bytes.now) (values_of self.old) cell) result }
     {
         let at = self.tally.cells;
@@ -50,7 +55,8 @@ impl Store<'_> {
 
     /// Makes what a cell without bytes of its own stands for.
     fn make(&mut self, cell: Cell) -> Result<Ref, Full>
-        requires { fits (text_of self.old) (used self.old).cells (values_of self.old) cell ≡ true }
+        requires fit { fits (text_of self.old) (used self.old).cells (values_of self.old) cell ≡ true }
+        requires jump { jumps (cells_of self.old) cell ≡ true }
         ensures { Made self.old self.new one_cell (of_cell (text_of self.old) (values_of self.old) cell) result }
     {
         self.next_span(&[])?;
@@ -94,6 +100,20 @@ impl Store<'_> {
         self.make(Cell::String(text))
     }
 
+    /// A value without parts, as a literal has it: none takes no cell.
+    pub fn make_plain(&mut self, value: PlainValue) -> Result<Ref, Full>
+        ensures { Made self.old self.new (cost (plain_of value.entry)) (plain_of value.entry) result }
+    {
+        match value {
+            PlainValue::Nothing => Ok(Ref::None),
+            PlainValue::False => self.make_boolean(false),
+            PlainValue::True => self.make_boolean(true),
+            PlainValue::Integer(n) => self.make_integer(n),
+            PlainValue::Float(bits) => self.make_float(bits),
+            PlainValue::String(bytes) => self.make_string(bytes),
+        }
+    }
+
     pub fn empty_list(&mut self) -> Result<Ref, Full>
         ensures { Made self.old self.new one_cell (the_list no_items) result }
     {
@@ -110,11 +130,12 @@ impl Store<'_> {
     {
         let Ref::At(front) = list else { unreachable() };
         let len = self.size_at(front) + 1;
+        let jump = self.jump_over(front);
         self.make(Cell::Push {
             front,
             part,
             len,
-            jump: front,
+            jump,
         })
     }
 
@@ -124,15 +145,36 @@ impl Store<'_> {
         self.make(Cell::EmptyMap)
     }
 
-    /// How many entries the map in a cell has once the key is in it.
-    #[tactic(auto, using(crate::proofs::Stores::counts_with))]
-    fn size_with(&self, front: u16, key: &[u8]) -> u16
+    /// Whether a key is above all keys of the map in a cell. Of a map that is not sorted it is not known.
+    #[tactic(auto, using(crate::proofs::Lists::insert_under))]
+    fn goes_last(&self, front: u16, key: &[u8]) -> bool
+        requires { front < (used self.now).cells }
+        ensures { (not result || goes_last key.now (slice_index_or (values_of self.now) front none)) ≡ true }
+    {
+        match self.cell(front) {
+            Cell::EmptyMap => true,
+            Cell::Insert {
+                key: newest,
+                sorted: true,
+                ..
+            } => is_before(self.text_at(newest), key),
+            _ => false,
+        }
+    }
+
+    /// How many entries the map in a cell has once the key is in it, which is new if it is above all others.
+    #[tactic(auto, using(crate::proofs::Stores::counts_with, crate::proofs::Stores::counts_last))]
+    fn size_with(&self, front: u16, key: &[u8], last: bool) -> u16
         requires low { front < (used self.now).cells }
         requires is_map { kind_of (slice_index_or (values_of self.now) front none) ≡ Kind.Map }
+        requires is_last { (not last || goes_last key.now (slice_index_or (values_of self.now) front none)) ≡ true }
         ensures counts { (v : Value) → has_entries result (inserted (slice_index_or (values_of self.now) front none) key.now v) ≡ true }
         ensures short { result ≤ front + 1 }
     {
         let size = self.size_at(front);
+        if last {
+            return size + 1;
+        }
         match self.value_of(Ref::At(front), key) {
             Some(_) => size,
             None => size + 1,
@@ -149,14 +191,16 @@ impl Store<'_> {
     {
         let Ref::At(front) = map else { unreachable() };
         let span = self.next_span(key)?;
-        let len = self.size_with(front, key);
+        let sorted = self.goes_last(front, key);
+        let len = self.size_with(front, key, sorted);
+        let jump = self.jump_over(front);
         let cell = Cell::Insert {
             front,
             key: span,
             part,
             len,
-            jump: front,
-            sorted: false,
+            jump,
+            sorted,
         };
         Ok(self.add(cell, key))
     }

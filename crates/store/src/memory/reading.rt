@@ -4,23 +4,28 @@ ghost use Rattle.std.specs.Prelude.{◌≡◌, ◌<◌, ◌≤◌, slice_index_o
 ghost use Rattle.meaning.specs.Value.{none, boolean, float as the_float, integer as the_integer, string};
 ghost use Rattle.meaning.specs.Parts.{truth};
 ghost use Rattle.store.specs.Cells.{at_span};
+ghost use Rattle.store.specs.Jumps.{Begins, jump_of};
 ghost use Rattle.store.specs.Kinds.{kind_of, size_of};
 ghost use Rattle.store.specs.Shown.{Shows};
-ghost use Rattle.store.specs.Stores.{Found, KeyKnown, Known, ShownIn, text_of, used, value, values_of};
+ghost use Rattle.store.specs.Stores.{Found, KeyKnown, Known, ShownIn, cells_of, text_of, used, value, values_of};
+ghost use Rattle.store.specs.declared.cell.Cell.TheVariants.{EmptyList};
 ghost use Rattle.store.specs.Values.{entry_in, part_of};
 
 use super::Store;
 use crate::cell::{Cell, Ref, TextSpan};
 use crate::kinds::Kind;
+use values::key::is_before;
 
 /// The bits of negative zero.
 const NEGATIVE_ZERO: u64 = 0x8000_0000_0000_0000;
 
 impl Store<'_> {
-    #[tactic(auto, using(crate::proofs::Stores::memory_shows))]
+    #[tactic(auto, using(crate::proofs::Stores::memory_shows, crate::proofs::Jumps::memory_is))]
     pub(super) fn cell(&self, at: u16) -> Cell
         requires { at < (used self.now).cells }
-        ensures { Shows (text_of self.now) at (values_of self.now) (slice_index_or (values_of self.now) at none) result }
+        ensures is { result ≡ slice_index_or (cells_of self.now) at EmptyList }
+        ensures shows { Shows (text_of self.now) at (values_of self.now) (slice_index_or (values_of self.now) at none) result }
+        ensures begins { Begins (slice_index_or (values_of self.now) (jump_of result at) none) (slice_index_or (values_of self.now) at none) }
     {
         self.cells[at as usize]
     }
@@ -154,7 +159,7 @@ impl Store<'_> {
     }
 
     /// The part of a list with that number, counted from 0.
-    #[tactic(auto, using(crate::proofs::Lists::push_past, crate::proofs::Lists::push_top, crate::proofs::Lists::push_low))]
+    #[tactic(auto, using(crate::proofs::Lists::push_past, crate::proofs::Lists::push_top, crate::proofs::Lists::push_low, crate::proofs::Lists::jump_part))]
     pub fn part(&self, r: Ref, number: usize) -> Option<Ref>
         requires { Known self.now r }
         ensures { Found self.now (part_of (value self.now r) number) result }
@@ -166,7 +171,7 @@ impl Store<'_> {
             front,
             part,
             len,
-            ..
+            jump,
         } = self.cell(here)
         {
             if number >= len as usize {
@@ -175,13 +180,18 @@ impl Store<'_> {
             if number + 1 == len as usize {
                 return Some(part);
             }
-            here = front;
+            here = if number < self.size_at(jump) as usize {
+                jump
+            } else {
+                front
+            };
         }
         None
     }
 
-    /// The value under a key of a map: the newest entry with that key counts.
-    #[tactic(auto, using(crate::proofs::Lists::insert_hit, crate::proofs::Lists::insert_miss))]
+    /// The value under a key of a map: the newest entry with that key counts. Where a key went in above the others, it is
+    /// above all that lie below.
+    #[tactic(auto, using(crate::proofs::Lists::insert_hit, crate::proofs::Lists::insert_miss, crate::proofs::Lists::insert_past, crate::proofs::Lists::jump_key))]
     pub fn value_of(&self, r: Ref, key: &[u8]) -> Option<Ref>
         requires { Known self.now r }
         ensures { Found self.now (entry_in (value self.now r) key.now) result }
@@ -193,13 +203,22 @@ impl Store<'_> {
             front,
             key: newest,
             part,
+            jump,
+            sorted,
             ..
         } = self.cell(here)
         {
             if key == self.text_at(newest) {
                 return Some(part);
             }
-            here = front;
+            if sorted && is_before(self.text_at(newest), key) {
+                return None;
+            }
+            here = if sorted && self.newest_is_above(jump, Some(key)) {
+                jump
+            } else {
+                front
+            };
         }
         None
     }

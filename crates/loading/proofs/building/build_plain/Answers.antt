@@ -9,8 +9,8 @@ returns-in_err-plain-clause-reads c =
 pub returns-in_err-value-clause-reads : goal.returns-in_err-value-clause-reads
 returns-in_err-value-clause-reads c =
     rw c.from_residual-in_err-value.ensures
-    (plain_not c.args.store.now c.make_plain.new.store c.args.bytes.now (drop c.args.pos c.args.bytes.now) _ _ c.in_ok-plain.ensures.same _ c.in_err-value.ensures.value c.make_plain.ensures)
+    (plain_not c.args.store.now c.make_plain.new.self c.args.bytes.now (drop c.args.pos c.args.bytes.now) _ _ c.in_ok-plain.ensures.same _ c.in_err-value.ensures.value c.make_plain.ensures)
 
 pub returns-clause-reads : goal.returns-clause-reads
 returns-clause-reads c =
-    plain_made c.args.store.now c.make_plain.new.store c.args.bytes.now (drop c.args.pos c.args.bytes.now) _ _ c.in_ok-plain.ensures.same _ _ c.in_ok-value.ensures.value c.make_plain.ensures
+    plain_made c.args.store.now c.make_plain.new.self c.args.bytes.now (drop c.args.pos c.args.bytes.now) _ _ c.in_ok-plain.ensures.same _ _ c.in_ok-value.ensures.value c.make_plain.ensures

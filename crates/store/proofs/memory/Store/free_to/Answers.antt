@@ -1,6 +1,10 @@
 use Rattle.std.proofs.Common.{sym, refl, take-take}
+use Rattle.store.proofs.Jumps.{supplied_under}
 use Rattle.store.proofs.Stores.{freed}
 use Rattle.store.proofs.memory.Store.free_to.Goals as goal
+
+pub invariant_of-self : goal.invariant_of-self
+invariant_of-self c = (supplied_under c.args.self.now c.args.mark c.requires, tt)
 
 pub returns : goal.returns
 returns c =

@@ -1,7 +1,7 @@
 use Rattle.std.proofs.Common.{sym, arith}
 use Rattle.store.specs.Stores.{value}
 use Rattle.store.proofs.Ordered.{after_entry, past_at, store_ordered}
-use Rattle.store.proofs.memory.Store.entry.Goals as goal
+use Rattle.store.proofs.memory.Store.entry_after_others.Goals as goal
 
 pub returns-in_err-here-2-clause-same : goal.returns-in_err-here-2-clause-same
 returns-in_err-here-2-clause-same c =
