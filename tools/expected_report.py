@@ -3,9 +3,9 @@
 
     python3 tools/expected_report.py < JOB
 
-This is written from docs/FORMAT.md, docs/JOBS.md and the definition of programs in
-crates/program/specs/Program.antt, and not from the program, to have something to compare the
-program with.
+This is written from docs/FORMAT.md, docs/JOBS.md, docs/MEANING.md (what a value costs) and the
+definition of programs in crates/program/specs/Program.antt, and not from the program, to have
+something to compare the program with.
 """
 
 import sys
@@ -24,8 +24,10 @@ BAD_ESCAPE = "a backslash stands before a byte that it cannot stand before"
 NO_CLOSING_QUOTE = "a text has no closing quote"
 NOT_ONE_SPACE = "words are separated by one space"
 MORE_WORDS = "there are more words than the call takes"
+NOT_DECIMAL = "a number is not written in decimal digits"
+TOO_LARGE = "a number is above 18446744073709551615"
 
-BAD_SOURCE, MALFORMED, MISPLACED, TOO_DEEP, TOO_MANY_INSTRUCTIONS = 1, 2, 3, 4, 5
+BAD_SOURCE, MALFORMED, MISPLACED, TOO_DEEP, TOO_MANY_INSTRUCTIONS, STORE_FULL = 1, 2, 3, 4, 5, 25
 
 CAUSES = {
     BAD_SOURCE: "the source is too long or is not well-formed text",
@@ -33,6 +35,7 @@ CAUSES = {
     MISPLACED: "a span is reversed, past the source or inside a character",
     TOO_DEEP: "the nesting is too deep",
     TOO_MANY_INSTRUCTIONS: "the template has too many instructions",
+    STORE_FULL: "the store is full",
 }
 
 
@@ -74,11 +77,37 @@ def is_text(row: bytes) -> bool:
 # LINES AND WORDS OF A JOB
 
 HEX_DIGITS = b"0123456789abcdefABCDEF"
+DECIMAL_DIGITS = b"0123456789"
+LARGEST_NUMBER = 2**64 - 1
 
 
 def job_lines(job: bytes) -> list[bytes]:
     *ended, rest = job.split(b"\n")
     return [line.removesuffix(b"\r") for line in ended] + ([rest] if rest else [])
+
+
+@dataclass(frozen=True)
+class Add:
+    name: bytes
+    source: bytes
+    tree: bytes
+
+
+class Charge(NamedTuple):
+    """Cells and bytes of the store: what is supplied, or what a value costs."""
+
+    cells: int
+    bytes: int
+
+
+@dataclass(frozen=True)
+class Supply:
+    given: Charge
+
+
+@dataclass(frozen=True)
+class Load:
+    value: bytes
 
 
 class Line:
@@ -96,18 +125,44 @@ class Line:
         self.at += 1
         return byte
 
-    def call(self) -> list[bytes]:
-        """The three words of an add."""
-        if not self.line.startswith(b"add "):
-            raise BadLine(NO_CALL)
-        self.at = len(b"add ")
-        words = [self.word()]
-        for _ in range(2):
-            self.separator()
-            words.append(self.word())
-        if self.ahead():
-            raise BadLine(MORE_WORDS)
-        return words
+    def call(self) -> Add | Supply | Load:
+        for name, read in ((b"add ", self.add), (b"supply ", self.supply), (b"load ", self.load)):
+            if self.line.startswith(name):
+                self.at = len(name)
+                call = read()
+                if self.ahead():
+                    raise BadLine(MORE_WORDS)
+                return call
+        raise BadLine(NO_CALL)
+
+    def add(self) -> Add:
+        name = self.word()
+        self.separator()
+        source = self.word()
+        self.separator()
+        return Add(name, source, self.word())
+
+    def supply(self) -> Supply:
+        cells = self.number()
+        self.separator()
+        return Supply(Charge(cells, self.number()))
+
+    def load(self) -> Load:
+        return Load(self.word())
+
+    def number(self) -> int:
+        """Decimal digits, up to a space or the end."""
+        if self.ahead() in (b"", b" "):
+            raise BadLine(MISSING_WORD)
+        number = 0
+        while self.ahead() not in (b"", b" "):
+            digit = self.next()
+            if digit not in DECIMAL_DIGITS:
+                raise BadLine(NOT_DECIMAL)
+            number = number * 10 + int(digit)
+            if number > LARGEST_NUMBER:
+                raise BadLine(TOO_LARGE)
+        return number
 
     def separator(self) -> None:
         byte = self.next()
@@ -280,17 +335,75 @@ class With:
 Statement = Raw | Inline | Include | If | For | With
 Block = list[Statement]
 
-# COMMANDS OF A PACKED TREE
+# VALUES
+
+# What may be used of a supply, of cells and of bytes.
+MOST_USED = 65535
+
+
+def usable(given: Charge) -> Charge:
+    return Charge(*(min(count, MOST_USED) for count in given))
+
+
+def total(costs: "Iterable[Charge]") -> Charge:
+    cells = bytes_used = 0
+    for cost in costs:
+        cells += cost.cells
+        bytes_used += cost.bytes
+    return Charge(cells, bytes_used)
+
+
+@dataclass(frozen=True)
+class PlainValue:
+    """A value without parts, by the words for it."""
+
+    words: bytes
+    cost: Charge
+
+
+@dataclass(frozen=True)
+class ListValue:
+    parts: "list[Value]"
+
+    @property
+    def words(self) -> bytes:
+        return b"list of %d parts" % len(self.parts)
+
+    @property
+    def cost(self) -> Charge:
+        """A cell, and for each part one besides its own cost."""
+        return total([Charge(1, 0), *(total([part.cost, Charge(1, 0)]) for part in self.parts)])
+
+
+@dataclass(frozen=True)
+class MapValue:
+    entries: "list[tuple[bytes, Value]]"
+
+    @property
+    def words(self) -> bytes:
+        return b"map of %d entries" % len(self.entries)
+
+    @property
+    def cost(self) -> Charge:
+        """A cell, and for each entry one, and the bytes of its key, besides its value's cost."""
+        puts = (total([value.cost, Charge(1, len(key))]) for key, value in self.entries)
+        return total([Charge(1, 0), *puts])
+
+
+Value = PlainValue | ListValue | MapValue
+
+# COMMANDS OF A PACKED TREE OR VALUE
 
 MOST_BYTES = 8192
 DEEPEST_BLOCK = 14
 DEEPEST_EXPRESSION = 16
+DEEPEST_VALUE = 16
 
 
 class Code(IntEnum):
     RAW, INLINE, INCLUDE, INCLUDE_WITH, IF, IF_ELSE, FOR_ONE, FOR_TWO, WITH, END = range(0x01, 0x0B)
     VARIABLE, LITERAL, LIST, MAP, PARENS, CALL, FILTER = range(0x10, 0x17)
-    NONE, FALSE, TRUE, INTEGER, FLOAT, STRING = range(0x20, 0x26)
+    NONE, FALSE, TRUE, INTEGER, FLOAT, STRING, LIST_VALUE, MAP_VALUE = range(0x20, 0x28)
 
 
 # what may stand in each place
@@ -298,6 +411,7 @@ STATEMENTS = range(Code.RAW, Code.END + 1)
 EXPRESSIONS = range(Code.VARIABLE, Code.FILTER + 1)
 PARTS = range(Code.VARIABLE, Code.CALL + 1)
 LITERAL_VALUES = range(Code.NONE, Code.STRING + 1)
+VALUES = range(Code.NONE, Code.MAP_VALUE + 1)
 
 
 class Command:
@@ -306,7 +420,7 @@ class Command:
     Reading a field tests for cause 2 at once. The spans wait for `place`.
     """
 
-    def __init__(self, tree: "Tree", known: range):
+    def __init__(self, tree: "Packed", known: range):
         self.tree, self.offset = tree, tree.at
         self.unplaced: list[Span] = []
         self.code = self.number(1)
@@ -346,6 +460,22 @@ class Command:
     def string(self) -> String:
         return String(self.span(), self.text())
 
+    def plain_value(self) -> PlainValue:
+        """The rest of a value without parts."""
+        match self.code:
+            case Code.NONE:
+                return PlainValue(b"none", Charge(0, 0))
+            case Code.FALSE:
+                return PlainValue(b"false", Charge(1, 0))
+            case Code.TRUE:
+                return PlainValue(b"true", Charge(1, 0))
+            case Code.INTEGER:
+                return PlainValue(b"integer %d" % self.number(8, signed=True), Charge(1, 0))
+            case Code.FLOAT:
+                return PlainValue(b"float of bits %d" % self.number(8), Charge(1, 0))
+        text = self.text()
+        return PlainValue(b"string " + quoted(text), Charge(1, len(text)))
+
     def member(self) -> Member:
         optional, by_key = self.flag(), self.flag()
         index = None if by_key else self.number(4)
@@ -363,17 +493,18 @@ class Command:
         self.require(depth <= deepest, TOO_DEEP)
 
 
-# TREES
+# PACKED BYTES
 
 
-class Tree:
-    """A packed tree over its source, and how far it is read.
-
-    `depth` is how deep a block or expression is nested.
-    """
+class Packed:
+    """A packed tree over its source, or a packed value over none, and how far it is read."""
 
     def __init__(self, source: bytes, packed: bytes):
         self.source, self.packed, self.at = source, packed, 0
+
+    def end(self) -> None:
+        if self.at < len(self.packed):
+            raise Refusal(MALFORMED, self.at)
 
     def is_placed(self, span: Span) -> bool:
         start, end = span
@@ -383,10 +514,51 @@ class Tree:
         """Whether a position is inside a character."""
         return position < len(self.source) and 0x80 <= self.source[position] <= 0xBF
 
+
+class Loaded(Packed):
+    """A packed value. `depth` is how deep a value in it is nested."""
+
+    def whole(self) -> Value:
+        value = self.value(1)
+        self.end()
+        return value
+
+    def value(self, depth: int) -> Value:
+        command = Command(self, VALUES)
+        match command.code:
+            case Code.LIST_VALUE:
+                return self.list_of_parts(command, depth)
+            case Code.MAP_VALUE:
+                return self.map_of_entries(command, depth)
+        value = command.plain_value()
+        command.place_at(depth, DEEPEST_VALUE)
+        return value
+
+    def list_of_parts(self, command: Command, depth: int) -> ListValue:
+        count = command.number(2)
+        command.place_at(depth, DEEPEST_VALUE)
+        return ListValue([self.value(depth + 1) for _ in range(count)])
+
+    def map_of_entries(self, command: Command, depth: int) -> MapValue:
+        """The first key is tested with the map, each other one behind the value before it."""
+        count = command.number(2)
+        key = command.text() if count else b""
+        command.place_at(depth, DEEPEST_VALUE)
+        entries: list[tuple[bytes, Value]] = []
+        for i in range(count):
+            if i > 0:
+                before, key = key, command.text()
+                command.require(before < key)
+            entries.append((key, self.value(depth + 1)))
+        return MapValue(entries)
+
+
+class Tree(Packed):
+    """A packed tree. `depth` is how deep a block or expression is nested."""
+
     def whole(self) -> Block:
         statements = self.statements(0)
-        if self.at < len(self.packed):
-            raise Refusal(MALFORMED, self.at)
+        self.end()
         return statements
 
     # statements
@@ -469,15 +641,7 @@ class Tree:
 
     def value(self) -> bytes:
         """The words for a literal's value."""
-        command = Command(self, LITERAL_VALUES)
-        match command.code:
-            case Code.INTEGER:
-                return b"integer %d" % command.number(8, signed=True)
-            case Code.FLOAT:
-                return b"float of bits %d" % command.number(8)
-            case Code.STRING:
-                return b"string " + quoted(command.text())
-        return {Code.NONE: b"none", Code.FALSE: b"false", Code.TRUE: b"true"}[command.code]
+        return Command(self, LITERAL_VALUES).plain_value().words
 
     def list_of_parts(self, command: Command, depth: int) -> ListOf:
         span, count = command.span(), command.count(0, 255)
@@ -608,6 +772,19 @@ def outline(source: bytes, statements: Block) -> list[bytes]:
     return written.lines
 
 
+def value_outline(level: int, value: Value) -> Iterator[bytes]:
+    indent = b"  " * level
+    yield indent + value.words
+    match value:
+        case ListValue(parts):
+            for part in parts:
+                yield from value_outline(level + 1, part)
+        case MapValue(entries):
+            for key, part in entries:
+                yield indent + b"  key " + quoted(key)
+                yield from value_outline(level + 2, part)
+
+
 # PROGRAMS
 
 MOST_INSTRUCTIONS = 1024
@@ -727,7 +904,7 @@ def compiled(statements: Block) -> Program:
 def listing(source: bytes, program: Program) -> list[bytes]:
     count = len(program)
     if count > MOST_INSTRUCTIONS:
-        return [b"  " + refused(Refusal(TOO_MANY_INSTRUCTIONS, count))]
+        return [b"  " + too_many(count)]
     lines = [b"    %d %s" % (i, listed(source, program[i])) for i in range(count)]
     return [b"  program of %d instructions" % count, *lines]
 
@@ -769,41 +946,98 @@ def path(source: bytes, members: list[Member]) -> bytes:
 
 
 def refused(refusal: Refusal) -> bytes:
-    words = f"refused by cause {refusal.cause}, {CAUSES[refusal.cause]}"
-    if refusal.cause == TOO_MANY_INSTRUCTIONS:
-        words += f": {refusal.detail}"
-    elif refusal.cause != BAD_SOURCE:
-        words += f", at byte {refusal.detail} of the tree"
-    return words.encode()
+    return f"refused by cause {refusal.cause}, {CAUSES[refusal.cause]}".encode()
 
 
-def report_lines(job: bytes) -> Iterator[bytes]:
-    taken = refusals = bad = 0
-    for number, line in enumerate(job_lines(job), start=1):
+def too_many(count: int) -> bytes:
+    return refused(Refusal(TOO_MANY_INSTRUCTIONS)) + b": %d" % count
+
+
+def refused_at(refusal: Refusal, packed: bytes) -> bytes:
+    """With the offset, except that of the source."""
+    words = refused(refusal)
+    if refusal.cause != BAD_SOURCE:
+        words += b", at byte %d of the %s" % (refusal.detail, packed)
+    return words
+
+
+class Report:
+    """The lines of a report, the counts for the last one, and what the store may use."""
+
+    def __init__(self) -> None:
+        self.lines: list[bytes] = []
+        self.taken = self.refused = self.bad = 0
+        self.usable = usable(Charge(MOST_USED, MOST_USED))
+
+    def line(self, number: int, line: bytes) -> None:
         if not line or line.startswith(b"#"):
-            continue
+            return
+        begin = b"line %d: " % number
         try:
-            name, source, packed = Line(line).call()
+            call = Line(line).call()
         except BadLine as words:
-            bad += 1
-            yield f"line {number}: bad line, {words}".encode()
-            continue
-        begin = b"line %d: add %s: " % (number, quoted(name))
+            self.bad += 1
+            self.lines.append(begin + f"bad line, {words}".encode())
+            return
+        match call:
+            case Add():
+                self.add(begin + b"add %s: " % quoted(call.name), call)
+            case Supply():
+                self.supply(begin + b"supply: ", call)
+            case Load():
+                self.load(begin + b"load: ", call)
+
+    def add(self, begin: bytes, add: Add) -> None:
         try:
-            statements = unpacked(source, packed)
+            statements = unpacked(add.source, add.tree)
         except Refusal as refusal:
-            refusals += 1
-            yield begin + refused(refusal)
-            continue
-        taken += 1
-        yield begin + b"taken, source of %d bytes, tree of %d bytes" % (len(source), len(packed))
-        yield from outline(source, statements)
-        yield from listing(source, compiled(statements))
-    yield f"{taken} taken, {refusals} refused, {bad} bad lines".encode()
+            self.refuse(begin + refused_at(refusal, b"tree"))
+            return
+        sizes = (len(add.source), len(add.tree))
+        self.take(begin + b"taken, source of %d bytes, tree of %d bytes" % sizes)
+        self.lines += outline(add.source, statements)
+        self.lines += listing(add.source, compiled(statements))
+
+    def supply(self, begin: bytes, supply: Supply) -> None:
+        self.usable = usable(supply.given)
+        counts = (*supply.given, *self.usable)
+        words = b"%d cells and %d bytes, of which %d cells and %d bytes are used at most"
+        self.take(begin + words % counts)
+
+    def load(self, begin: bytes, load: Load) -> None:
+        try:
+            value = Loaded(b"", load.value).whole()
+        except Refusal as refusal:
+            self.refuse(begin + refused_at(refusal, b"value"))
+            return
+        cost, usable = value.cost, self.usable
+        costs = (cost.cells, usable.cells, cost.bytes, usable.bytes)
+        cost_words = b", cost %d cells of %d and %d bytes of %d" % costs
+        if cost.cells > usable.cells or cost.bytes > usable.bytes:
+            self.refuse(begin + refused(Refusal(STORE_FULL)) + cost_words)
+            return
+        self.take(begin + b"taken, value of %d bytes" % len(load.value) + cost_words)
+        self.lines += value_outline(1, value)
+
+    def take(self, line: bytes) -> None:
+        self.taken += 1
+        self.lines.append(line)
+
+    def refuse(self, line: bytes) -> None:
+        self.refused += 1
+        self.lines.append(line)
+
+    def end(self) -> None:
+        counts = (self.taken, self.refused, self.bad)
+        self.lines.append(b"%d taken, %d refused, %d bad lines" % counts)
 
 
 def report(job: bytes) -> bytes:
-    return b"".join(line + b"\n" for line in report_lines(job))
+    written = Report()
+    for number, line in enumerate(job_lines(job), start=1):
+        written.line(number, line)
+    written.end()
+    return b"".join(line + b"\n" for line in written.lines)
 
 
 if __name__ == "__main__":

@@ -4,8 +4,9 @@
     python3 tools/make_example_job.py
 
 The archive has every template, packed, and behind them trees that were damaged, one for each way in
-which adding a template is refused. It is written to crates/plot/stdin too, and the report that is
-expected of it to crates/plot/stdout.
+which adding a template is refused; then values that are packed here, by docs/FORMAT.md, and loaded,
+and damaged ones. It is written to crates/plot/stdin too, and the report that is expected of it to
+crates/plot/stdout.
 """
 
 import struct
@@ -24,8 +25,9 @@ TEMPLATES = ("deviation_card", "pot_list", "mark_file", "footer")
 
 HEADER = """\
 # An archive of packed templates, as the yard keeps them. Written by tools/make_example_job.py.
-# Each line is a call: add NAME SOURCE TREE. Text stands in double quotes, other bytes in hexadecimal
-# digits. Empty lines and lines that begin with # are passed over.
+# Each line is a call: add NAME SOURCE TREE, supply CELLS BYTES or load VALUE. Text stands in double
+# quotes, other bytes in hexadecimal digits, numbers in decimal ones. Empty lines and lines that begin
+# with # are passed over.
 """
 
 POT = b"Pot {{ n }}."
@@ -139,6 +141,156 @@ def bad_words() -> list[str]:
     return [line for what, call in bad for line in (f"# {what}", call)]
 
 
+# VALUES THAT ARE LOADED
+
+Value = None | bool | int | float | str | list["Value"] | dict[str, "Value"]
+
+CARD = {
+    "adjuster": "M. Le Goff",
+    "date": "2026-11-26",
+    "deviations": {
+        "000": {"degrees": 2, "side": "E"},
+        "045": {"degrees": 0, "side": ""},
+        "090": {"degrees": 3, "side": "W"},
+        "135": {"degrees": 1, "side": "W"},
+    },
+    "method": {"sun": False, "transits": ["Tourelle du Four", "Saint-Mathieu"]},
+    "vessel": {
+        "compass": {"maker": "Sirius", "serial": "K-118"},
+        "name": "Gwennili",
+        "number": "BR 318412",
+        "port": "Le Conquet",
+    },
+}
+
+POTS = {
+    "pots": [
+        {"depth": 18, "lat": 29012345, "lon": -2865400, "number": 1},
+        {"depth": 22, "lat": 29013007, "lon": -2866120, "number": 2},
+        {"depth": 0, "lat": -5, "lon": 0, "number": 65535},
+    ]
+}
+
+EVERY_KIND = [
+    None,
+    False,
+    True,
+    -7,
+    2**63 - 1,
+    -(2**63),
+    0.05,
+    -0.0,
+    float("inf"),
+    'Récif "est"\t\\\n',
+    "",
+    [],
+    {},
+    [[None], {"": {}, "é": [0]}],
+]
+
+LETTERS = {"a": "x", "b": "yz"}
+
+
+def length(count: int) -> bytes:
+    return struct.pack("<H", count)
+
+
+def packed_text(text: bytes) -> bytes:
+    return length(len(text)) + text
+
+
+def packed_entry(key: bytes, value: bytes) -> bytes:
+    return packed_text(key) + value
+
+
+def packed(value: Value) -> bytes:
+    match value:
+        case None:
+            return b"\x20"
+        case bool():
+            return b"\x22" if value else b"\x21"
+        case int():
+            return b"\x23" + struct.pack("<q", value)
+        case float():
+            return b"\x24" + struct.pack("<d", value)
+        case str():
+            return b"\x25" + packed_text(value.encode())
+        case list():
+            return b"\x26" + length(len(value)) + b"".join(map(packed, value))
+    entries = sorted((key.encode(), packed(part)) for key, part in value.items())
+    return b"\x27" + length(len(entries)) + b"".join(packed_entry(*entry) for entry in entries)
+
+
+def nested_lists(depth: int) -> bytes:
+    """Each list is the only part of the one around it; the innermost is empty."""
+    value: Value = []
+    for _ in range(depth - 1):
+        value = [value]
+    return packed(value)
+
+
+def load(value: bytes) -> str:
+    return f"load {value.hex() or '-'}"
+
+
+def map_of(*entries: tuple[bytes, bytes]) -> bytes:
+    """With keys in any order, and any bytes for the values."""
+    return b"\x27" + length(len(entries)) + b"".join(packed_entry(*entry) for entry in entries)
+
+
+def loads() -> list[str]:
+    nothing, pots = packed(None), packed(POTS)
+    deep = nested_lists(16)[: -len(packed([]))] + b"\x26" + length(1)
+    twice = map_of((b"a", nothing), (b"a", nothing))
+    good = [
+        ("the readings of a deviation card", packed(CARD)),
+        ("a pot list", pots),
+        ("values of each kind, and parts of parts", packed(EVERY_KIND)),
+        ("16 lists inside each other", nested_lists(16)),
+    ]
+    refused = [
+        ("cause 4: 17 lists inside each other", nested_lists(17)),
+        ("cause 4: a map in 16 lists", deep + map_of((b"a", nothing))),
+        ("cause 2: the same with a first key that is no text", deep + map_of((b"\xff", nothing))),
+        ("cause 2: no bytes", b""),
+        ("cause 2: the pot list is cut inside its last number", pots[:-1]),
+        ("cause 2: a byte is left over", pots + nothing),
+        ("cause 2: 11 begins no value", b"\x26" + length(1) + b"\x11"),
+        ("cause 2: a string that is no text", b"\x25" + packed_text(b"R\xe9cif")),
+        ("cause 2: keys that do not ascend", map_of((b"b", nothing), (b"a", nothing))),
+        ("cause 2: a key that stands twice", b"\x26" + length(1) + twice),
+        ("cause 2: a value in a map, met before its second key", map_of((b"b", b"\x63"), (b"a", nothing))),
+    ]
+    lines = [line for what, value in good + refused for line in (f"# {what}", load(value))]
+    letters = packed(LETTERS)
+    lines += ["# 5 cells and 5 bytes hold two letters and their keys, and no less does."]
+    for supply in ("5 5", "4 5", "5 4", "0 0"):
+        lines += [f"supply {supply}", load(letters)]
+    lines += ["# None costs nothing.", load(nothing)]
+    lines += ["# What was loaded before does not count, nor what was refused."]
+    lines += ["supply 5 5", load(letters), load(pots), load(letters)]
+    lines += ["# More than a store uses.", "supply 18446744073709551615 0065536", load(pots)]
+    return lines
+
+
+def bad_supplies() -> list[str]:
+    bad = [
+        ("a byte that is no decimal digit", "supply 12a 5"),
+        ("a sign", "supply 5 -1"),
+        ("a number that 64 bits do not hold", "supply 18446744073709551616 5"),
+        ("the same, before a byte that is no digit", "supply 5 99999999999999999999x"),
+        ("a number is missing", "supply 5"),
+        ("both are missing", "supply "),
+        ("two spaces between numbers", "supply 5  5"),
+        ("a third number", "supply 5 5 5"),
+        ("a load without its value", "load "),
+        ("a load of two values", "load 20 20"),
+        ("a load with half a byte", "load 2"),
+        ("no space behind the call", "supply"),
+    ]
+    return [line for what, call in bad for line in (f"# {what}", call)]
+
+
 # JOBS
 
 
@@ -158,6 +310,9 @@ def archive() -> list[str]:
     lines += ["", "# No calls: each of these has a word that is wrong, as it says.", *bad_words()]
     lines += ["", "# Adds: a source in hexadecimal digits, and an empty one."]
     lines += [add("pot_in_digits", POT.hex().upper(), pack(POT)), add("empty", "-", b"\x0a")]
+    lines += ["", "# Values: each is loaded, or refused for the cause that is named.", *loads()]
+    lines += ["", "# No calls: each of these supplies and loads has a word that is wrong.", *bad_supplies()]
+    lines += ["", "# Still loads.", load(packed(POTS))]
     return lines
 
 

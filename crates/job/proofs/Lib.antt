@@ -1,5 +1,6 @@
 pub mod Writing
+pub mod Parts
+pub mod Loads
 pub mod Rows
 pub mod Arms
 pub mod Meanings
-pub mod Wording

@@ -1,10 +1,12 @@
-pub mod Options
-pub mod Words
-pub mod Calls
 pub mod Lines
 pub mod Outline
 pub mod Outlined
 pub mod Listing
 pub mod Listed
+pub mod Causes
+pub mod Values
+pub mod Stored
+pub mod Supplies
+pub mod Loads
 pub mod Report
 pub mod Reported

@@ -2,6 +2,7 @@
 use Rattle.std.specs.Prelude.{◌≡◌, ℕ, zero, suc, cond, List, [], ◌∷◌, ◌++◌, IfOk, codes, decimal, Result, ◌==◌}
 use Rattle.std.specs.declared.alloc.AllocError.{AllocError}
 use Rattle.std.specs.Fmt.{signed_decimal}
+use Rattle.meaning.specs.Parts.{count_items, count_entries}
 use Rattle.meaning.specs.Value.{Value, none, boolean, integer, float, string, list, map}
 use Rattle.meaning.specs.Spans.{text_at}
 use Rattle.meaning.specs.Tree.{String}
@@ -40,15 +41,22 @@ indent (suc depth) = codes "  " ++ indent depth
 abbrev pub place : Span → List ℕ
 place s = codes " " ++ (decimal s.start ++ (codes "-" ++ (decimal s.end ++ codes " ")))
 
--- the value of a literal; a list or map is none
+-- a list or map is shown by how many parts it has
+abbrev pub list_words : ℕ → List ℕ
+list_words count = codes "list of " ++ (decimal count ++ codes " parts")
+
+abbrev pub map_words : ℕ → List ℕ
+map_words count = codes "map of " ++ (decimal count ++ codes " entries")
+
+-- what a value is, and what it holds
 abbrev pub value_text : Value → List ℕ
 value_text none = codes "none"
 value_text (boolean b) = cond b (codes "true") (codes "false")
 value_text (integer n) = codes "integer " ++ signed_decimal n
 value_text (float bits) = codes "float of bits " ++ decimal bits
 value_text (string t) = codes "string " ++ quoted t
-value_text (list vs) = []
-value_text (map es) = []
+value_text (list vs) = list_words (count_items vs)
+value_text (map es) = map_words (count_entries es)
 
 abbrev pub indented : (depth : ℕ) (label : List ℕ) → List ℕ
 indented depth label = indent depth ++ label

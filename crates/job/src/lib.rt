@@ -1,10 +1,11 @@
-//! Jobs: what is asked for, a call a line, and the report of what was found.
+//! Jobs: the report of what each line asked for, and of what was found.
 
 #![tactic(auto)]
 
-pub mod line;
 mod lines;
 mod listing;
+mod loaded;
 mod outline;
 pub mod report;
-pub mod word;
+mod stored;
+pub mod supply;

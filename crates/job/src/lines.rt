@@ -119,7 +119,7 @@ impl Report {
     }
 
     /// Two spaces for each level.
-    fn put_indent(&mut self, depth: usize) -> Result<(), AllocError>
+    pub(crate) fn put_indent(&mut self, depth: usize) -> Result<(), AllocError>
         ensures { Wrote (indent depth) result self.old self.new }
     {
         for _level in 0..depth {

@@ -1,23 +1,26 @@
 //! The report of a job: what each line asked for, and what came of it.
 
-ghost use Rattle.std.specs.Prelude.{◌≡◌, Some};
+ghost use Rattle.std.specs.Prelude.{◌≡◌, ◌++◌, IfOk, codes};
 ghost use Rattle.meaning.specs.Fault.{number};
 ghost use Rattle.meaning.specs.FaultRecords.{fault_of};
 ghost use Rattle.packing.specs.Unpacking.{unpack};
-ghost use Rattle.meaning.specs.Or.{fails, gives};
-ghost use Rattle.job.specs.Calls.{add, call_of};
+ghost use Rattle.calls.specs.Calls.{call_of};
 ghost use Rattle.job.specs.Lines.{Wrote};
-ghost use Rattle.job.specs.Report.{bad_words, call_words, came_of, came_of_add, cause_words, counts_words, heading, place_words, refused_by, refused_words, taken_words, verdict_words};
+ghost use Rattle.job.specs.Causes.{cause_words, refused_by};
+ghost use Rattle.job.specs.Report.{add_words, bad_line, call_words, came_of, came_of_add, counts_words, heading, place_words, refused_words, taken_words, usable_after, verdict_words};
 ghost use Rattle.job.specs.Reported.{CameTo, counted, no_counts, one_more};
+ghost use Rattle.job.specs.Loads.{came_of_load, load_words};
+ghost use Rattle.job.specs.Supplies.{supply_words, usable};
 
-use crate::line::{Line, read_line};
 pub use crate::lines::Report;
 use crate::outline::outline;
-use crate::word::{BadLine, Failure};
+use crate::supply::Supply;
+use calls::line::{Line, read_line};
+use calls::word::{BadLine, Failure};
 use checker::template::Template;
 use meaning::fault::{Cause, Fault};
 use std::alloc::AllocError;
-use std::fmt::{self, Display, Formatter};
+use store::memory::Tally;
 
 /// What came of a line.
 #[derive(Clone, Copy)]
@@ -67,27 +70,6 @@ pub fn words_of_cause(cause: Cause) -> &'static [u8]
         Cause::SinkStopped => b"the sink stopped",
         Cause::StoreFull => b"the store is full",
         Cause::TextTooLong => b"a formatter's text is too long",
-    }
-}
-
-impl Display for BadLine {
-    ghost output = { λ bad. Some (bad_words bad) };
-
-    fn fmt<W: fmt::Write>(&self, f: &mut Formatter<W>) -> fmt::Result {
-        match self {
-            BadLine::NoCall => f.write_str("it begins with no call that is known"),
-            BadLine::MissingWord => f.write_str("a word is missing"),
-            BadLine::NotHex => f.write_str(
-                "a word is neither hexadecimal digits, -, nor text in double quotes",
-            ),
-            BadLine::OddDigits => f.write_str("a word has an odd number of hexadecimal digits"),
-            BadLine::BadEscape => f.write_str(
-                "a backslash stands before a byte that it cannot stand before",
-            ),
-            BadLine::OpenQuote => f.write_str("a text has no closing quote"),
-            BadLine::NoSpace => f.write_str("words are separated by one space"),
-            BadLine::MoreWords => f.write_str("there are more words than the call takes"),
-        }
     }
 }
 
@@ -202,7 +184,7 @@ impl Report {
         source: &[u8],
         tree: &[u8],
     ) -> Result<Came, AllocError>
-        ensures wrote { Wrote (call_words number (gives (add name.now source.now tree.now))) result self.old self.new }
+        ensures wrote { Wrote (add_words number name.now source.now tree.now) result self.old self.new }
         ensures came { CameTo (came_of_add (unpack source.now tree.now)) result }
     {
         self.put_heading(number)?;
@@ -211,9 +193,50 @@ impl Report {
         self.put_verdict(source, tree)
     }
 
+    /// Makes a new store, and says what is supplied.
+    fn put_supply(
+        &mut self,
+        supply: &mut Supply,
+        number: u64,
+        cells: usize,
+        bytes: usize,
+    ) -> Result<Came, AllocError>
+        ensures wrote { Wrote (heading number ++ supply_words cells bytes (usable cells bytes)) result self.old self.new }
+        ensures came { CameTo Came.Taken result }
+        ensures supplied { IfOk result (λ _. supply.new ≡ usable cells bytes) }
+    {
+        *supply = Supply::new(self.heap(), cells, bytes)?;
+        let Tally {
+            cells: used_cells,
+            bytes: used_bytes,
+        } = supply.usable();
+        self.put_heading(number)?;
+        writeln!(
+            self,
+            "supply: {cells} cells and {bytes} bytes, of which {used_cells} cells and {used_bytes} bytes are used at most"
+        )?;
+        Ok(Came::Taken)
+    }
+
+    /// Loads a value, and says what came of it.
+    fn put_load(
+        &mut self,
+        supply: &mut Supply,
+        number: u64,
+        packed: &[u8],
+    ) -> Result<Came, AllocError>
+        ensures wrote { Wrote (heading number ++ codes "load: " ++ load_words supply.old packed.now) result self.old self.new }
+        ensures came { CameTo (came_of_load supply.old packed.now) result }
+        ensures supplied { supply.new ≡ supply.old }
+    {
+        self.put_heading(number)?;
+        self.put(b"load: ")?;
+        supply.load(packed, self)
+    }
+
     /// That a line is no call, and why.
     fn put_bad(&mut self, number: u64, bad: BadLine) -> Result<Came, AllocError>
-        ensures wrote { Wrote (call_words number (fails bad)) result self.old self.new }
+        ensures wrote { Wrote (bad_line number bad) result self.old self.new }
         ensures came { CameTo Came.NoCall result }
     {
         self.put_heading(number)?;
@@ -222,15 +245,25 @@ impl Report {
     }
 
     /// What the line of that number asks for, and what came of it.
-    pub fn put_line(&mut self, number: u64, line: &[u8]) -> Result<Came, AllocError>
-        ensures wrote { Wrote (call_words number (call_of line.now)) result self.old self.new }
-        ensures came { CameTo (came_of (call_of line.now)) result }
+    pub fn put_line(
+        &mut self,
+        supply: &mut Supply,
+        number: u64,
+        line: &[u8],
+    ) -> Result<Came, AllocError>
+        ensures wrote { Wrote (call_words supply.old number (call_of line.now)) result self.old self.new }
+        ensures came { CameTo (came_of supply.old (call_of line.now)) result }
+        ensures supplied { IfOk result (λ _. supply.new ≡ usable_after supply.old (call_of line.now)) }
     {
         match read_line(self.heap(), line) {
             Ok(None) => Ok(Came::Passed),
             Ok(Some(Line::Add { name, source, tree })) => {
                 self.put_add(number, name.as_slice(), source.as_slice(), tree.as_slice())
             }
+            Ok(Some(Line::Supply { cells, bytes })) => {
+                self.put_supply(supply, number, cells, bytes)
+            }
+            Ok(Some(Line::Load { packed })) => self.put_load(supply, number, packed.as_slice()),
             Err(Failure::Memory) => Err(AllocError),
             Err(Failure::Bad(bad)) => self.put_bad(number, bad),
         }

@@ -2,8 +2,9 @@
 
 #![tactic(auto)]
 
-use job::line::content;
+use calls::line::content;
 use job::report::{Counts, Report};
+use job::supply::{MOST, Supply};
 use std::io::{BufRead, BufReader, Write};
 
 fn run(rt: &HostRuntime) -> anyhow::Result<()> {
@@ -13,12 +14,13 @@ fn run(rt: &HostRuntime) -> anyhow::Result<()> {
     let mut counts = Counts::default();
     let mut line = Vec::new(heap);
     let mut report = Report::new(heap);
+    let mut supply = Supply::new(heap, MOST, MOST)?;
     for number in 1..u64::MAX {
         line.clear();
         if input.read_until(b'\n', &mut line)? == 0 {
             break;
         }
-        let came = report.put_line(number, content(line.as_slice()))?;
+        let came = report.put_line(&mut supply, number, content(line.as_slice()))?;
         counts = counts.with(came);
         output.write_all(report.as_bytes())?;
         report.clear();

@@ -5,10 +5,10 @@ use Rattle.std.specs.Borrow.{Bor}
 use Rattle.std.specs.declared.option.Option as code
 use Rattle.meaning.specs.Or.{Or, fails, gives}
 use Rattle.meaning.specs.Step.{Step}
-use Rattle.job.specs.declared.word.BadLine.{BadLine}
-use Rattle.job.specs.declared.word.BadLine.TheVariants.{MissingWord, NotHex, OddDigits, BadEscape, OpenQuote}
-use Rattle.job.specs.declared.word.Failure.{Failure}
-use Rattle.job.specs.declared.word.Failure.TheVariants.{Memory, Bad}
+use Rattle.calls.specs.declared.word.BadLine.{BadLine}
+use Rattle.calls.specs.declared.word.BadLine.TheVariants.{MissingWord, NotHex, OddDigits, BadEscape, OpenQuote}
+use Rattle.calls.specs.declared.word.Failure.{Failure}
+use Rattle.calls.specs.declared.word.Failure.TheVariants.{Memory, Bad}
 
 -- reads off the front of what is left of a line
 abbrev pub Reads : Type 0 → Type 0

@@ -1,18 +1,18 @@
 -- Words of a line, read byte by byte.
-use Rattle.std.proofs.Common.{◌≡◌, ℕ, ◌+◌, ◌-◌, ◌*◌, ◌<◌, ◌≤◌, Bool, true, Bor, cond, List, [], ◌∷◌, ◌++◌, length, get_or, take, drop, take_all, Some, None, Ok, Err, codes, Result, sym, refl, ap, ◌∙◌, append_assoc, arith, ne_eqb, length-drop, length-take}
+use Rattle.std.proofs.Common.{◌≡◌, ℕ, ◌+◌, ◌-◌, ◌*◌, ◌<◌, ◌≤◌, true, false, Bor, List, [], ◌∷◌, ◌++◌, length, get_or, take, drop, take_all, Some, None, Ok, Err, codes, Result, sym, refl, ap, ◌∙◌, append_assoc, arith, ne_eqb, length-drop, length-take}
 use Rattle.std.proofs.lemmas.Cmp.{nat_list_eq_equiv}
 use mathlib.Core.Option.{none, some}
 use Rattle.std.specs.Str.{bytes_eq as same_text}
 use Rattle.std.specs.Option.{ok_or}
 use Rattle.std.specs.declared.option.Option.{Option}
 use Rattle.meaning.specs.Or.{Or, fails, gives}
-use Rattle.job.specs.declared.word.BadLine.{BadLine}
-use Rattle.job.specs.declared.word.BadLine.TheVariants.{MissingWord, MoreWords, NoCall, NotHex, BadEscape, OpenQuote, NoSpace}
-use Rattle.job.specs.declared.line.Line.{Line}
-use Rattle.job.specs.declared.word.Failure.{Failure}
-use Rattle.job.specs.declared.word.Failure.TheVariants.{Memory, Bad}
-use Rattle.job.specs.Calls.{Asks, AsksToAdd, added, call_of, line_end, passed_over, read_off, space}
-use Rattle.job.specs.Words.{NextDigit, Reads, Told, before, behind_backslash, digit, hex, second_digit, unescaped, unquote, word}
+use Rattle.calls.specs.declared.word.BadLine.{BadLine}
+use Rattle.calls.specs.declared.word.BadLine.TheVariants.{MissingWord, MoreWords, NoCall, NotHex, BadEscape, OpenQuote, NoSpace}
+use Rattle.calls.specs.declared.line.Line.{Line}
+use Rattle.calls.specs.declared.word.Failure.{Failure}
+use Rattle.calls.specs.declared.word.Failure.TheVariants.{Memory, Bad}
+use Rattle.calls.specs.Calls.{Asks, Called, added, call_of, line_end, loaded, named, passed_over, read_off, space, supplied}
+use Rattle.calls.specs.Words.{NextDigit, Reads, Told, before, behind_backslash, digit, hex, second_digit, unescaped, unquote, word}
 
 -- bytes that were read before the others
 abbrev pub behind : List ℕ → Or BadLine (List ℕ × List ℕ) → Or BadLine (List ℕ × List ℕ)
@@ -170,36 +170,63 @@ line_more (c ∷ s) h = refl
 
 -- where a word of the call fails
 module _ {X : Type 0} (means : X → List ℕ) (words : List ℕ) where
-  pub name_fails : (e : Failure) → Told means words word (Err e) → AsksToAdd words (Err e)
+  pub name_fails : (e : Failure) → Told means words word (Err e) → Called (read_off (added words)) (Err e)
   unfolding added
   name_fails Memory told = tt
   name_fails (Bad b) told = rw told
 
   module _ (name behind_name second : List ℕ) (first : word words ≡ gives (name, behind_name)) (gap : space behind_name ≡ gives (tt, second)) where
-    pub source_fails : (e : Failure) → Told means second word (Err e) → AsksToAdd words (Err e)
+    pub source_fails : (e : Failure) → Told means second word (Err e) → Called (read_off (added words)) (Err e)
     unfolding added
     source_fails Memory told = tt
     source_fails (Bad b) told = rw (first, gap, told)
 
     module _ (source behind_source third : List ℕ) (is : word second ≡ gives (source, behind_source)) (gap' : space behind_source ≡ gives (tt, third)) where
-      pub tree_fails : (e : Failure) → Told means third word (Err e) → AsksToAdd words (Err e)
+      pub tree_fails : (e : Failure) → Told means third word (Err e) → Called (read_off (added words)) (Err e)
       unfolding added
       tree_fails Memory told = tt
       tree_fails (Bad b) told = rw (first, gap, is, gap', told)
 
--- a line that begins with the call's name, and one that doesn't
-pub asks_to_add : (line : List ℕ) → 1 ≤ length line → (get_or line 0 0 ≡ 35 → ⊥) → (r : Bool) → same_text (take 4 line) (codes "add ") ≡ r → call_of line ≡ cond r (read_off (added (drop 4 line))) (fails NoCall)
-unfolding call_of
-asks_to_add [] h other r same = absurd (omega arith)
-asks_to_add (c ∷ s) h other r same = rw (ne_eqb c 35 other, nat_list_eq_equiv.symm (codes "add ") (take 4 (c ∷ s)), same)
+-- where the word of a load fails
+pub packed_fails : {X : Type 0} (means : X → List ℕ) (words : List ℕ) (e : Failure) → Told means words word (Err e) → Called (read_off (loaded words)) (Err e)
+unfolding loaded
+packed_fails means words Memory told = tt
+packed_fails means words (Bad b) told = rw told
 
-module _ (line words : List ℕ) (h : 1 ≤ length line) (other : get_or line 0 0 ≡ 35 → ⊥) (same : same_text (take 4 line) (codes "add ") ≡ true) (left : words ≡ drop 4 line) where
-  pub line_adds : (l : Line) → AsksToAdd words (Ok l) → Asks line (Ok (Some l))
-  line_adds l told = asks_to_add line h other true same ∙ ap (λ s. read_off (added s)) (sym left) ∙ told
+-- the name of a call, and what is read behind it
+module _ (line words : List ℕ) where
+  pub is_add : same_text (take 4 line) (codes "add ") ≡ true → words ≡ drop 4 line → (r : Result Line Failure) → Called (read_off (added words)) r → Called (named line) r
+  is_add same left r told = rw (nat_list_eq_equiv.symm (codes "add ") (take 4 line), same, ← left) told
 
-  pub line_fails : (e : Failure) → AsksToAdd words (Err e) → Asks line (Err e)
+  module _ (not_add : same_text (take 4 line) (codes "add ") ≡ false) where
+    pub is_supply : same_text (take 7 line) (codes "supply ") ≡ true → words ≡ drop 7 line → (r : Result Line Failure) → Called (read_off (supplied words)) r → Called (named line) r
+    is_supply same left r told = rw (nat_list_eq_equiv.symm (codes "add ") (take 4 line), not_add, nat_list_eq_equiv.symm (codes "supply ") (take 7 line), same, ← left) told
+
+    module _ (not_supply : same_text (take 7 line) (codes "supply ") ≡ false) where
+      pub is_load : same_text (take 5 line) (codes "load ") ≡ true → words ≡ drop 5 line → (r : Result Line Failure) → Called (read_off (loaded words)) r → Called (named line) r
+      is_load same left r told =
+          rw (nat_list_eq_equiv.symm (codes "add ") (take 4 line), not_add, nat_list_eq_equiv.symm (codes "supply ") (take 7 line), not_supply, nat_list_eq_equiv.symm (codes "load ") (take 5 line), same, ← left) told
+
+      pub is_none : same_text (take 5 line) (codes "load ") ≡ false → named line ≡ fails NoCall
+      is_none same =
+          rw (nat_list_eq_equiv.symm (codes "add ") (take 4 line), not_add, nat_list_eq_equiv.symm (codes "supply ") (take 7 line), not_supply, nat_list_eq_equiv.symm (codes "load ") (take 5 line), same)
+
+-- a line that is neither empty nor a comment
+module _ (line : List ℕ) (h : 1 ≤ length line) (other : get_or line 0 0 ≡ 35 → ⊥) where
+  is_call : call_of line ≡ named line
+  unfolding call_of
+  is_call = by line h other
+    where
+      by : (line : List ℕ) → 1 ≤ length line → (get_or line 0 0 ≡ 35 → ⊥) → call_of line ≡ named line
+      by [] h other = absurd (omega arith)
+      by (c ∷ s) h other = rw (ne_eqb c 35 other)
+
+  pub line_calls : (l : Line) → Called (named line) (Ok l) → Asks line (Ok (Some l))
+  line_calls l told = is_call ∙ told
+
+  pub line_fails : (e : Failure) → Called (named line) (Err e) → Asks line (Err e)
   line_fails Memory told = tt
-  line_fails (Bad b) told = asks_to_add line h other true same ∙ ap (λ s. read_off (added s)) (sym left) ∙ told
+  line_fails (Bad b) told = is_call ∙ told
 
 -- WHAT A READER NEEDS OF THESE
 
@@ -213,4 +240,10 @@ pub ruleset spaces = (space_none, space_right, space_wrong)
 
 pub ruleset additions = (line_none, line_more, name_fails, source_fails, tree_fails)
 
-pub ruleset lines = (nothing_asked, comment_asks, asks_to_add, line_adds, line_fails, ok_or_err)
+pub ruleset supplies = (line_none, line_more)
+
+pub ruleset loads = (line_none, line_more, packed_fails)
+
+pub ruleset names = (is_add, is_supply, is_load, is_none)
+
+pub ruleset lines = (nothing_asked, comment_asks, line_calls, line_fails)

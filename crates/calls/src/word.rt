@@ -1,12 +1,14 @@
 //! The words of a job's line: bytes as hexadecimal digits, `-` for none, or text in double quotes. The heap is no part of
 //! a line, and stands beside it where bytes are made.
 
-ghost use Rattle.std.specs.Prelude.{◌<◌, ◌≡◌, IfSome, vec_items};
-ghost use Rattle.job.specs.declared.word.Failure.TheVariants.{Bad, Memory};
-ghost use Rattle.job.specs.Words.{NextDigit, NextQuoted, Told, digit, hex, unescaped, unquote, word};
-ghost use Rattle.job.specs.Options.{same_option};
+ghost use Rattle.std.specs.Prelude.{◌<◌, ◌≡◌, IfSome, Some, vec_items};
+ghost use Rattle.calls.specs.BadLines.{bad_words};
+ghost use Rattle.calls.specs.declared.word.Failure.TheVariants.{Bad, Memory};
+ghost use Rattle.calls.specs.Words.{NextDigit, NextQuoted, Told, digit, hex, unescaped, unquote, word};
+ghost use Rattle.calls.specs.Options.{same_option};
 
 use std::alloc::{AllocError, AllocFailed, Global};
+use std::fmt::{self, Display, Formatter};
 
 /// Why a line is no call.
 #[derive(Clone, Copy)]
@@ -25,6 +27,33 @@ pub enum BadLine {
     /// Something else than one space stands behind a word.
     NoSpace,
     MoreWords,
+    /// A number is not written in decimal digits.
+    NotDecimal,
+    /// A number does not fit 64 bits.
+    TooLarge,
+}
+
+impl Display for BadLine {
+    ghost output = { λ bad. Some (bad_words bad) };
+
+    fn fmt<W: fmt::Write>(&self, f: &mut Formatter<W>) -> fmt::Result {
+        match self {
+            BadLine::NoCall => f.write_str("it begins with no call that is known"),
+            BadLine::MissingWord => f.write_str("a word is missing"),
+            BadLine::NotHex => f.write_str(
+                "a word is neither hexadecimal digits, -, nor text in double quotes",
+            ),
+            BadLine::OddDigits => f.write_str("a word has an odd number of hexadecimal digits"),
+            BadLine::BadEscape => f.write_str(
+                "a backslash stands before a byte that it cannot stand before",
+            ),
+            BadLine::OpenQuote => f.write_str("a text has no closing quote"),
+            BadLine::NoSpace => f.write_str("words are separated by one space"),
+            BadLine::MoreWords => f.write_str("there are more words than the call takes"),
+            BadLine::NotDecimal => f.write_str("a number is not written in decimal digits"),
+            BadLine::TooLarge => f.write_str("a number is above 18446744073709551615"),
+        }
+    }
 }
 
 /// Why a line could not be read.

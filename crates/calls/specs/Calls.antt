@@ -5,18 +5,21 @@ use Rattle.std.specs.Borrow.{Bor}
 use Rattle.std.specs.declared.option.Option as code
 use Rattle.meaning.specs.Or.{Or, fails, gives}
 use Rattle.meaning.specs.Step.{return, ◌>>=◌, ◌>>◌}
-use Rattle.job.specs.declared.word.BadLine.{BadLine}
-use Rattle.job.specs.declared.word.BadLine.TheVariants.{NoCall, MissingWord, NoSpace, MoreWords}
-use Rattle.job.specs.declared.word.Failure.{Failure}
-use Rattle.job.specs.declared.word.Failure.TheVariants.{Memory, Bad}
-use Rattle.job.specs.declared.line.Line.{Line}
-use Rattle.job.specs.declared.line.Line.TheVariants.{Add}
-use Rattle.job.specs.Words.{Reads, word}
+use Rattle.calls.specs.declared.word.BadLine.{BadLine}
+use Rattle.calls.specs.declared.word.BadLine.TheVariants.{NoCall, MissingWord, NoSpace, MoreWords}
+use Rattle.calls.specs.declared.word.Failure.{Failure}
+use Rattle.calls.specs.declared.word.Failure.TheVariants.{Memory, Bad}
+use Rattle.calls.specs.declared.line.Line.{Line}
+use Rattle.calls.specs.declared.line.Line.TheVariants.{Add, Supply, Load}
+use Rattle.calls.specs.Words.{Reads, word}
+use Rattle.calls.specs.Numbers.{number}
 
 pub data Call : Type 0 where
   -- an empty line, or a comment
   passed_over : Call
   add : (name source tree : List ℕ) → Call
+  supply : (cells bytes : ℕ) → Call
+  load : (packed : List ℕ) → Call
 
 -- one space
 unfoldable pub space : Reads (Unit {0})
@@ -38,20 +41,41 @@ added = do
   line_end
   return (add name source tree)
 
+unfoldable pub supplied : Reads Call
+supplied = do
+  cells ← number
+  space
+  bytes ← number
+  line_end
+  return (supply cells bytes)
+
+unfoldable pub loaded : Reads Call
+loaded = do
+  packed ← word
+  line_end
+  return (load packed)
+
 -- what was read, if the line was read to its end
 abbrev pub read_off : Or BadLine (Call × List ℕ) → Or BadLine Call
 read_off (gives (call, rest)) = gives call
 read_off (fails bad) = fails bad
 
-abbrev pub is_add : List ℕ → Or BadLine Call
-is_add line = cond (same_text (codes "add ") (take 4 line)) (read_off (added (drop 4 line))) (fails NoCall)
+-- by the name that the line begins with
+abbrev pub named : List ℕ → Or BadLine Call
+named line =
+    cond (same_text (codes "add ") (take 4 line)) (read_off (added (drop 4 line)))
+    (cond (same_text (codes "supply ") (take 7 line)) (read_off (supplied (drop 7 line)))
+    (cond (same_text (codes "load ") (take 5 line)) (read_off (loaded (drop 5 line)))
+    (fails NoCall)))
 
 unfoldable pub call_of : (line : List ℕ) → Or BadLine Call
 call_of [] = gives passed_over
-call_of (c ∷ s) = cond (c == 35) (gives passed_over) (is_add (c ∷ s))
+call_of (c ∷ s) = cond (c == 35) (gives passed_over) (named (c ∷ s))
 
 abbrev pub call_is : Line → Call
 call_is (Add name source tree) = add (vec_items name) (vec_items source) (vec_items tree)
+call_is (Supply cells bytes) = supply cells bytes
+call_is (Load packed) = load (vec_items packed)
 
 -- nothing is said where there was no memory
 abbrev pub Asks : List ℕ → Result (code.Option Line) Failure → Type 0
@@ -60,11 +84,16 @@ Asks line (Ok (Some l)) = call_of line ≡ gives (call_is l)
 Asks line (Err Memory) = Unit {0}
 Asks line (Err (Bad b)) = call_of line ≡ fails b
 
--- the words behind `add `
-abbrev pub AsksToAdd : (words : List ℕ) → Result Line Failure → Type 0
-AsksToAdd words (Ok l) = read_off (added words) ≡ gives (call_is l)
-AsksToAdd words (Err Memory) = Unit {0}
-AsksToAdd words (Err (Bad b)) = read_off (added words) ≡ fails b
+-- what is read as a call is what the line means, or the words behind its name
+abbrev pub Called : Or BadLine Call → Result Line Failure → Type 0
+Called o (Ok l) = o ≡ gives (call_is l)
+Called o (Err Memory) = Unit {0}
+Called o (Err (Bad b)) = o ≡ fails b
+
+-- the same of words that need no memory
+abbrev pub CalledAtOnce : Or BadLine Call → Result Line BadLine → Type 0
+CalledAtOnce o (Ok l) = o ≡ gives (call_is l)
+CalledAtOnce o (Err b) = o ≡ fails b
 
 abbrev pub Skips : (left : List ℕ) → Result (Bor (List ℕ)) BadLine → Type 0
 Skips left (Ok rest) = space left ≡ gives (tt, rest.now)

@@ -1,7 +1,7 @@
 use Rattle.std.proofs.Common.{◌≡◌, length, vec_items}
-use Rattle.job.specs.Words.{hex}
-use Rattle.job.proofs.Wording.{behind}
-use Rattle.job.proofs.word.read_hex.Given as goal
+use Rattle.calls.specs.Words.{hex}
+use Rattle.calls.proofs.Wording.{behind}
+use Rattle.calls.proofs.word.read_hex.Given as goal
 
 -- the digits still to come give the whole
 abbrev pub invariant-loop-bytes : goal.invariant-loop-bytes

@@ -1,7 +1,7 @@
 use Rattle.std.proofs.Common.{◌≡◌, length, vec_items}
-use Rattle.job.specs.Words.{unquote}
-use Rattle.job.proofs.Wording.{behind}
-use Rattle.job.proofs.word.read_quoted.Given as goal
+use Rattle.calls.specs.Words.{unquote}
+use Rattle.calls.proofs.Wording.{behind}
+use Rattle.calls.proofs.word.read_quoted.Given as goal
 
 -- the text still to come gives the whole
 abbrev pub invariant-loop-bytes : goal.invariant-loop-bytes

@@ -1,7 +1,7 @@
 use Rattle.std.proofs.Common.{sym, ap, ◌∙◌, arith}
-use Rattle.job.specs.Options.{same_option}
-use Rattle.job.proofs.Wording.{digit_none, digit_space, digit_good, shorter}
-use Rattle.job.proofs.word.next_digit.Goals as goal
+use Rattle.calls.specs.Options.{same_option}
+use Rattle.calls.proofs.Wording.{digit_none, digit_space, digit_good, shorter}
+use Rattle.calls.proofs.word.next_digit.Goals as goal
 
 pub returns-in-empty : goal.returns-in-empty
 returns-in-empty c = digit_none c.args.line.now (omega arith)

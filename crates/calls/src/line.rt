@@ -1,8 +1,9 @@
 //! The lines of a job: what each asks for.
 
 ghost use Rattle.std.specs.Prelude.{◌≡◌};
-ghost use Rattle.job.specs.Calls.{Asks, AsksToAdd, Skips, without_last};
+ghost use Rattle.calls.specs.Calls.{Asks, Called, CalledAtOnce, Skips, added, loaded, named, read_off, supplied, without_last};
 
+use crate::number::read_number;
 use crate::word::{BadLine, Failure, read_word};
 use std::alloc::Global;
 
@@ -14,6 +15,15 @@ pub enum Line {
         name: Vec<u8>,
         source: Vec<u8>,
         tree: Vec<u8>,
+    },
+    /// A new, empty store of so many cells and bytes.
+    Supply {
+        cells: usize,
+        bytes: usize,
+    },
+    /// A packed value, to be loaded.
+    Load {
+        packed: Vec<u8>,
     },
 }
 
@@ -32,7 +42,7 @@ fn skip_space(line: &[u8]) -> Result<&[u8], BadLine>
 /// A template that is to be added: its name, source and tree, and nothing behind them.
 #[tactic(auto, unfolding(crate::specs::Calls::added), using(crate::proofs::Wording::additions))]
 fn read_add(heap: Global, words: &[u8]) -> Result<Line, Failure>
-    ensures { AsksToAdd words.now result }
+    ensures { Called (read_off (added words.now)) result }
 {
     let (name, name_rest) = read_word(heap, words)?;
     let source_word = skip_space(name_rest)?;
@@ -45,6 +55,48 @@ fn read_add(heap: Global, words: &[u8]) -> Result<Line, Failure>
     }
 }
 
+/// How many cells and bytes are supplied, and nothing behind them.
+#[tactic(auto, unfolding(crate::specs::Calls::supplied), using(crate::proofs::Wording::supplies))]
+fn read_supply(words: &[u8]) -> Result<Line, BadLine>
+    ensures { CalledAtOnce (read_off (supplied words.now)) result }
+{
+    let (cells, cells_rest) = read_number(words)?;
+    let bytes_word = skip_space(cells_rest)?;
+    let (bytes, bytes_rest) = read_number(bytes_word)?;
+    match bytes_rest {
+        [] => Ok(Line::Supply { cells, bytes }),
+        _ => Err(BadLine::MoreWords),
+    }
+}
+
+/// A packed value that is to be loaded, and nothing behind it.
+#[tactic(auto, unfolding(crate::specs::Calls::loaded), using(crate::proofs::Wording::loads))]
+fn read_load(heap: Global, words: &[u8]) -> Result<Line, Failure>
+    ensures { Called (read_off (loaded words.now)) result }
+{
+    let (packed, rest) = read_word(heap, words)?;
+    match rest {
+        [] => Ok(Line::Load { packed }),
+        _ => Err(BadLine::MoreWords.into()),
+    }
+}
+
+/// The call whose name the line begins with.
+#[tactic(auto, using(crate::proofs::Wording::names))]
+fn read_call(heap: Global, line: &[u8]) -> Result<Line, Failure>
+    ensures { Called (named line.now) result }
+{
+    if let Some(words) = line.strip_prefix(b"add ") {
+        read_add(heap, words)
+    } else if let Some(words) = line.strip_prefix(b"supply ") {
+        Ok(read_supply(words)?)
+    } else if let Some(words) = line.strip_prefix(b"load ") {
+        read_load(heap, words)
+    } else {
+        Err(BadLine::NoCall.into())
+    }
+}
+
 /// What the line asks for, nothing if it is empty or a comment; or why it is no call.
 #[tactic(auto, using(crate::proofs::Wording::lines))]
 pub fn read_line(heap: Global, line: &[u8]) -> Result<Option<Line>, Failure>
@@ -53,10 +105,7 @@ pub fn read_line(heap: Global, line: &[u8]) -> Result<Option<Line>, Failure>
     match line {
         [] => Ok(None),
         [b'#', ..] => Ok(None),
-        _ => {
-            let words = line.strip_prefix(b"add ").ok_or(BadLine::NoCall)?;
-            Ok(Some(read_add(heap, words)?))
-        }
+        _ => Ok(Some(read_call(heap, line)?)),
     }
 }
 

@@ -1,0 +1,5 @@
+pub mod Options
+pub mod Words
+pub mod Numbers
+pub mod Calls
+pub mod BadLines
