@@ -1,0 +1,2 @@
+pub mod Vowels
+pub mod VowelLaws
