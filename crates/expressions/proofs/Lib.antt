@@ -1,2 +1,5 @@
 mod Pushing
 mod Blames
+pub mod Calls
+mod Texts
+pub mod Steps

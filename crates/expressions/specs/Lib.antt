@@ -1,2 +1,3 @@
 pub mod Pushing
 pub mod Calling
+pub mod Emitting

@@ -1,5 +1,5 @@
 -- What an instruction of an expression does: it pushes the value that it makes, or faults.
-use Rattle.std.specs.Prelude.{◌≡◌, ◌<◌, ◌≤◌, List, ◌∷◌, length, Ok, Err, Result}
+use Rattle.std.specs.Prelude.{◌≡◌, ℕ, ◌<◌, ◌≤◌, List, ◌∷◌, length, drop, Ok, Err, Result}
 use Rattle.meaning.specs.Or.{Or, fails, gives}
 use Rattle.meaning.specs.Charge.{Charge, charge}
 use Rattle.meaning.specs.Fault.{Fault, fault_at}
@@ -38,6 +38,12 @@ Pushes before after values values' span (gives (v, tally)) (Ok done) = StandsOnT
 Pushes before after values values' span (gives (v, tally)) (Err g) = ⊥
 Pushes before after values values' span (fails f) (Ok done) = ⊥
 Pushes before after values values' span (fails f) (Err g) = Fails before after f g
+
+-- there are so many values, and room for one in their place
+pub record Enough (arity : ℕ) (values : Stack Argument) : Type 0 where
+  pub there : arity ≤ length (entries values)
+  pub few : length (drop arity (entries values)) < most_values
+  pub roomy : most_values ≤ room values
 
 -- there are two values, of which the second is of that kind, and room in their place
 pub record Two (s : Store) (values : Stack Argument) (kind : Kind) : Type 0 where

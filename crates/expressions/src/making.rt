@@ -7,7 +7,7 @@ ghost use Rattle.meaning.specs.Charge.{cell_and_text, charge, cost, one_cell};
 ghost use Rattle.meaning.specs.Value.{list, map, no_entries, no_items};
 ghost use Rattle.stack.specs.Entries.{Kept, entries};
 ghost use Rattle.reader.specs.Meanings.{plain_of};
-ghost use Rattle.store.specs.Stores.{Made, supply, used};
+ghost use Rattle.store.specs.Stores.{supply, used};
 ghost use Rattle.store.specs.Values.{inserted, pushed};
 ghost use Rattle.hosts.specs.Answers.{AllKnown};
 ghost use Rattle.expressions.specs.Pushing.{Joins, Pushes, Spare, Tops, Two};
@@ -57,20 +57,6 @@ pub fn start_map(values: &mut Stack<Argument>, store: &mut Store, span: Span) ->
     push_value(values, made, span)
 }
 
-/// Makes a literal's value.
-fn make_literal(store: &mut Store, value: PlainValue) -> Result<Ref, Full>
-    ensures { Made store.old store.new (cost (plain_of value.entry)) (plain_of value.entry) result }
-{
-    match value {
-        PlainValue::Nothing => Ok(Ref::None),
-        PlainValue::False => store.make_boolean(false),
-        PlainValue::True => store.make_boolean(true),
-        PlainValue::Integer(n) => store.make_integer(n),
-        PlainValue::Float(bits) => store.make_float(bits),
-        PlainValue::String(bytes) => store.make_string(bytes),
-    }
-}
-
 pub fn start_literal(
     values: &mut Stack<Argument>,
     store: &mut Store,
@@ -82,7 +68,7 @@ pub fn start_literal(
     ensures kept { Kept values.old values.new }
     ensures pushes { Pushes store.old store.new (entries values.old) (entries values.new) span (charge (supply store.old) span (cost (plain_of value.entry)) (plain_of value.entry) (used store.old)) result }
 {
-    let made = make_literal(store, value);
+    let made = store.make_plain(value);
     push_value(values, made, span)
 }
 

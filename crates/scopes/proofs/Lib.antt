@@ -1,0 +1,6 @@
+mod Finds
+mod Built
+mod Turns
+mod Stacks
+pub mod Keeping
+pub mod Steps

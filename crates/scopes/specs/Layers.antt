@@ -2,13 +2,16 @@
 use Rattle.std.specs.Prelude.{◌≡◌, ◌<◌, ◌≤◌, true, List, [], ◌∷◌, length}
 use Rattle.meaning.specs.Charge.{Charge}
 use Rattle.meaning.specs.Reading.{Templates}
-use Rattle.store.specs.Cells.{below, inside}
-use Rattle.store.specs.Stores.{Height, charged}
-use Rattle.store.specs.declared.cell.Entry as cell
+use Rattle.store.specs.Cells.{below}
+use Rattle.store.specs.Kinds.{kind_of, size_of}
+use Rattle.store.specs.Stores.{Height, charged, value}
 use Rattle.store.specs.declared.cell.Ref.{Ref}
+use Rattle.store.specs.declared.kinds.Kind.{Kind}
+use Rattle.store.specs.declared.kinds.Kind.TheVariants as kinds
 use Rattle.store.specs.declared.memory.Store.{Store}
+use Rattle.decoder.specs.declared.decoded.LoopVars.{LoopVars}
+use Rattle.decoder.specs.declared.decoded.LoopVars.TheVariants as vars
 use Rattle.scopes.specs.declared.state.LoopState.{LoopState}
-use Rattle.scopes.specs.declared.state.LoopState.TheVariants as loops
 use Rattle.scopes.specs.declared.state.Scope.{Scope}
 use Rattle.scopes.specs.declared.state.State.{State}
 use Rattle.scopes.specs.declared.state.State.TheVariants as states
@@ -17,13 +20,18 @@ use Rattle.scopes.specs.declared.state.State.TheVariants as states
 abbrev pub Low : Charge → Ref → Type 0
 Low at r = below at.cells r ≡ true
 
-abbrev pub LowEntry : Charge → cell.Entry → Type 0
-LowEntry at e = (inside at.bytes e.key ≡ true) × Low at e.value
+-- what a loop with such names goes over
+abbrev pub iterable_kind : LoopVars → Kind
+iterable_kind (vars.Item name) = kinds.List
+iterable_kind (vars.KeyValue k w both) = kinds.Map
 
-module _ (templates : Templates) where
-  abbrev pub LoopFits : Charge → LoopState → Type 0
-  LoopFits at (loops.List template item list next current) = (template < length templates) × Low at list × Low at current
-  LoopFits at (loops.Map template key value map next current) = (template < length templates) × Low at map × LowEntry at current
+module _ (templates : Templates) (s : Store) where
+  -- a loop at a height: there is no turn after the last
+  pub record LoopFits (at : Charge) (l : LoopState) : Type 0 where
+    pub named : l.template < length templates
+    pub low : Low at l.iterable
+    pub kind : kind_of (value s l.iterable) ≡ iterable_kind l.vars
+    pub within : l.next ≤ size_of (value s l.iterable)
 
   abbrev pub StateFits : Charge → State → Type 0
   StateFits at states.ValueFn = Unit {0}
@@ -33,13 +41,13 @@ module _ (templates : Templates) where
   StateFits at states.Boundary = Unit {0}
 
   -- one entry, whose floor is a height that the store can be put back to
-  pub record Layer (s : Store) (above : Charge) (e : Scope) : Type 0 where
+  pub record Layer (above : Charge) (e : Scope) : Type 0 where
     pub height : Height s (charged e.floor)
     pub cells_low : e.floor.cells ≤ above.cells
     pub bytes_low : e.floor.bytes ≤ above.bytes
     pub fits : StateFits (charged e.floor) e.state
 
   -- the newest first; the tally stands at `above`
-  abbrev pub Layered : Store → (above : Charge) → List Scope → Type 0
-  Layered s above [] = Unit {0}
-  Layered s above (e ∷ es) = Layer s above e × Layered s (charged e.floor) es
+  abbrev pub Layered : (above : Charge) → List Scope → Type 0
+  Layered above [] = Unit {0}
+  Layered above (e ∷ es) = Layer above e × Layered (charged e.floor) es

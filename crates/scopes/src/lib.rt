@@ -2,4 +2,8 @@
 
 #![tactic(auto)]
 
+pub mod iter;
+pub mod loop_value;
+pub mod searching;
 pub mod state;
+pub mod var;

@@ -1,28 +1,19 @@
 //! The entries of the stack of scopes.
 
+use decoder::decoded::LoopVars;
 use meaning::tree::Span;
-use store::cell::{Entry, Ref};
+use store::cell::Ref;
 use store::memory::Tally;
 
-/// A loop: its names, what it goes over, the number of its next turn, and what the turn before that has.
-/// Names are spans of the source of the template with the index `template`.
+/// A loop over a list or a map: its next turn has the number `next`, counted from 0, and it is in the turn before that, if any.
+/// Its names are spans of the source of the template with the index `template`; what they stand for is read from the list
+/// or map where it is asked for, so that the loop holds nothing of a turn.
 #[derive(Clone, Copy)]
-pub enum LoopState {
-    List {
-        template: usize,
-        item: Span,
-        list: Ref,
-        next: usize,
-        current: Ref,
-    },
-    Map {
-        template: usize,
-        key: Span,
-        value: Span,
-        map: Ref,
-        next: usize,
-        current: Entry,
-    },
+pub struct LoopState {
+    pub template: usize,
+    pub vars: LoopVars,
+    pub iterable: Ref,
+    pub next: u16,
 }
 
 #[derive(Clone, Copy)]

@@ -1,0 +1,2 @@
+pub mod Emits
+pub mod Offers
