@@ -1,5 +1,5 @@
 -- What is read of the templates by an index.
-use Rattle.std.proofs.Common.{◌≡◌, ℕ, zero, suc, ◌+◌, ◌-◌, ◌*◌, ◌<◌, ◌≤◌, true, List, [], ◌∷◌, length, get_or, take, drop, Some, None, vec_items, sym, ap, subst, ◌∙◌, ap₂, arith}
+use Rattle.std.proofs.Common.{◌≡◌, ℕ, zero, suc, ◌+◌, ◌-◌, ◌*◌, ◌<◌, true, List, [], ◌∷◌, length, get_or, take, drop, Some, None, vec_items, sym, ap, subst, ◌∙◌, ap₂, arith}
 use mathlib.Core.Option.{some}
 use Rattle.std.specs.declared.option.Option as code_option
 use Rattle.std.specs.List.{slice_get}
@@ -8,7 +8,7 @@ use Rattle.std.specs.Option.{option_copied}
 use Rattle.std.specs.Slice.{IsItemAt}
 use Rattle.std.proofs.lemmas.Grind.{common_steps}
 use Rattle.std.proofs.lemmas.Option.{slice_get_past, slice_get-get_or}
-use Rattle.std.proofs.lemmas.List.{length-take-le, take-take, drop-take, drop-drop}
+use Rattle.std.proofs.lemmas.List.{length-take-le}
 use Rattle.std.proofs.lemmas.Bool.{and_parts}
 use Rattle.std.specs.Cmp.Lexicographic.{bytes_decides}
 use Rattle.meaning.specs.Fault.{Fault}
@@ -26,7 +26,7 @@ use Rattle.templates.specs.Entries.{source_of, tree_of, records_of, scope_of, te
 use Rattle.templates.specs.Held.{entries_of, templates_of, name_at, template_at, tree_at, Finds, Fetches}
 use Rattle.templates.specs.declared.entry.Entry.{Entry}
 use Rattle.templates.specs.declared.table.Templates.{Templates}
-use Rattle.templates.proofs.Kept.{sound_at}
+use Rattle.templates.proofs.Kept.{source_there, tree_there, records_there, sound_at}
 use Rattle.templates.proofs.Meanings.{means_fetches}
 use Rattle.templates.proofs.Names.{held_length, held_at, find_first, find_none}
 
@@ -90,17 +90,10 @@ module _ (t : Templates) where
 
     -- the slices that are lent
     pub source_read : take e.source_len (drop (e.place * 16384) (vec_items t.bytes)) ≡ (template_at (templates_of t) i).source
-    source_read =
-        let fits : e.source_len ≤ 16384 = omega arith in
-        sym (take-take e.source_len 16384 (drop (e.place * 16384) (vec_items t.bytes)) fits) ∙ ap (λ (x : Template). x.source) (sym template_is)
+    source_read = sym (source_there (vec_items t.bytes) e) ∙ ap (λ (x : Template). x.source) (sym template_is)
 
     pub tree_read : take e.tree_len (drop (e.place * 16384 + 8192) (vec_items t.bytes)) ≡ tree_at t i
-    tree_read =
-        let bytes = vec_items t.bytes in
-        let fits : e.tree_len ≤ 8192 = omega arith in
-        sym
-        (tree_is ∙ ap (take e.tree_len) (drop-take 8192 8192 (drop (e.place * 16384) bytes) ∙ ap (take 8192) (drop-drop 8192 (e.place * 16384) bytes))
-        ∙ take-take e.tree_len 8192 (drop (e.place * 16384 + 8192) bytes) fits)
+    tree_read = sym (tree_is ∙ tree_there (vec_items t.bytes) e)
 
     -- the program
     abbrev code : List program.Instr
@@ -113,9 +106,8 @@ module _ (t : Templates) where
     pub fetched : (pc : ℕ) (r : code_option.Option Instr) → r ≡ slice_get (take e.len (drop (e.place * 1024) (vec_items t.instrs))) pc →
         Fetches (tree_at t i) (program.compile (template_at (templates_of t) i).tree) pc r
     fetched pc r got =
-        let fits : e.len ≤ 1024 = omega arith in
         subst (Fetches (tree_at t i) code pc)
-        (ap (λ (xs : List Instr). slice_get xs pc) (take-take e.len 1024 (drop (e.place * 1024) (vec_items t.instrs)) fits) ∙ sym got)
+        (ap (λ (xs : List Instr). slice_get xs pc) (records_there (vec_items t.instrs) e) ∙ sym got)
         (means_fetches (tree_at t i) records code meant pc)
 
   -- a name that was located

@@ -1,28 +1,36 @@
 -- What is written at one place leaves the entries at other places as they were.
 use Rattle.std.proofs.Common.{◌≡◌, ℕ, zero, suc, ◌+◌, ◌*◌, ◌<◌, ◌≤◌, Bool, true, ◌&&◌, ◌⊎◌, List, [], ◌∷◌, ◌++◌, length, get_or, take, drop, refl, ap, ◌∙◌, inl, inr, arith}
 use Rattle.std.proofs.lemmas.Grind.{common_steps}
+use Rattle.std.proofs.lemmas.List.{take-take, drop-take, drop-drop}
 use Rattle.std.proofs.lemmas.Bool.{cases_order, eq-eqb, and_parts}
 use Rattle.meaning.specs.Names.{name_of}
 use Rattle.compiler.specs.declared.instr.Instr.{Instr}
 use Rattle.templates.specs.Entries.{bytes_at, instrs_at, source_of, tree_of, records_of, template_from, held, sound, all_sound, lies, times}
-use Rattle.templates.specs.Writing.{written}
+use Rattle.templates.specs.Writing.{written, Elsewhere}
 use Rattle.templates.specs.declared.entry.Entry.{Entry}
 use Rattle.templates.proofs.Written.{read_before, read_behind}
 
 -- PLACES
 
--- other places are as they were
-pub record Elsewhere (p : ℕ) (bytes after : List ℕ) (instrs records : List Instr) : Type 0 where
-  pub bytes_same : (q : ℕ) → (q ≡ p → ⊥) → bytes_at after q ≡ bytes_at bytes q
-  pub instrs_same : (q : ℕ) → (q ≡ p → ⊥) → instrs_at records q ≡ instrs_at instrs q
+-- what an entry points to, read from where it begins
+pub source_there : (bytes : List ℕ) (e : Entry) → source_of bytes e ≡ take e.source_len (drop (e.place * 16384) bytes)
+source_there bytes e = take-take e.source_len 16384 (drop (e.place * 16384) bytes) (omega arith)
 
-pub bytes_elsewhere : (bytes piece : List ℕ) (p off : ℕ) → off + length piece ≤ 16384 → p * 16384 + 16384 ≤ length bytes → (q : ℕ) → (q ≡ p → ⊥) → bytes_at (written bytes (p * 16384 + off) piece) q ≡ bytes_at bytes q
-bytes_elsewhere bytes piece p off fits room q other = by (cases_order q p)
+pub tree_there : (bytes : List ℕ) (e : Entry) → tree_of bytes e ≡ take e.tree_len (drop (e.place * 16384 + 8192) bytes)
+tree_there bytes e =
+    ap (take e.tree_len) (drop-take 8192 8192 (drop (e.place * 16384) bytes) ∙ ap (take 8192) (drop-drop 8192 (e.place * 16384) bytes))
+    ∙ take-take e.tree_len 8192 (drop (e.place * 16384 + 8192) bytes) (omega arith)
+
+pub records_there : (instrs : List Instr) (e : Entry) → records_of instrs e ≡ take e.len (drop (e.place * 1024) instrs)
+records_there instrs e = take-take e.len 1024 (drop (e.place * 1024) instrs) (omega arith)
+
+pub bytes_elsewhere : (bytes piece : List ℕ) (p at : ℕ) → p * 16384 ≤ at → at + length piece ≤ p * 16384 + 16384 → p * 16384 + 16384 ≤ length bytes → (q : ℕ) → (q ≡ p → ⊥) → bytes_at (written bytes at piece) q ≡ bytes_at bytes q
+bytes_elsewhere bytes piece p at from to room q other = by (cases_order q p)
   where
-    by : (q ≡ p) ⊎ ((q < p) ⊎ (p < q)) → bytes_at (written bytes (p * 16384 + off) piece) q ≡ bytes_at bytes q
+    by : (q ≡ p) ⊎ ((q < p) ⊎ (p < q)) → bytes_at (written bytes at piece) q ≡ bytes_at bytes q
     by (inl same) = absurd (other same)
-    by (inr (inl below)) = read_before bytes piece (p * 16384 + off) (q * 16384) 16384 (omega arith) (omega arith)
-    by (inr (inr above)) = ap (take 16384) (read_behind bytes piece (p * 16384 + off) (q * 16384) (omega arith) (omega arith))
+    by (inr (inl below)) = read_before bytes piece at (q * 16384) 16384 (omega arith) (omega arith)
+    by (inr (inr above)) = ap (take 16384) (read_behind bytes piece at (q * 16384) (omega arith) (omega arith))
 
 pub instrs_elsewhere : (instrs piece : List Instr) (p : ℕ) → length piece ≤ 1024 → p * 1024 + 1024 ≤ length instrs → (q : ℕ) → (q ≡ p → ⊥) → instrs_at (written instrs (p * 1024) piece) q ≡ instrs_at instrs q
 instrs_elsewhere instrs piece p fits room q other = by (cases_order q p)

@@ -4,5 +4,8 @@ pub mod Written
 pub mod Names
 pub mod Spots
 pub mod Kept
+pub mod Placed
+pub mod Adding
+pub mod Closed
 pub mod Indexed
 pub mod Found

@@ -1,10 +1,11 @@
 -- Entries that lie apart, and the table after one was set or put last.
-use Rattle.std.proofs.Common.{◌≡◌, ℕ, suc, ◌+◌, ◌-◌, ◌<◌, ◌≤◌, max, List, [], ◌∷◌, ◌++◌, length, get_or, take, drop, set, sym, refl, ap, ◌∙◌, ap₂, arith, drop-cons}
+use Rattle.std.proofs.Common.{◌≡◌, ℕ, suc, ◌+◌, ◌-◌, ◌<◌, ◌≤◌, Bool, true, false, cond, ◌⊎◌, inl, inr, max, List, [], ◌∷◌, ◌++◌, length, get_or, take, drop, set, sym, refl, ap, ◌∙◌, ap₂, arith, drop-cons}
+use Rattle.std.specs.Prelude.{◌==◌}
 use lib.Seq.{take-append-add}
 use Rattle.std.proofs.lemmas.Grind.{common_steps}
 use Rattle.std.proofs.lemmas.List.{take-append-drop, take-take, set_split, length-take-le}
 use Rattle.std.proofs.lemmas.Slice.{between_is}
-use Rattle.std.proofs.lemmas.Bool.{eq-eqb}
+use Rattle.std.proofs.lemmas.Bool.{cases_order, eqb-true, eq-eqb}
 use Rattle.templates.specs.Entries.{lies, times, Apart}
 use Rattle.templates.specs.declared.entry.Entry.{Entry}
 
@@ -50,3 +51,40 @@ take_placed es at n m new h le most =
     ap₂ take whole (set_split es at new h)
     ∙ take-append-add (take at es) (new ∷ drop (suc at) es) (suc (n - suc at))
     ∙ ap₂ (λ (xs ys : List Entry). xs ++ (new ∷ ys)) (sym (take-take at n es le)) (between_is es (suc at) n)
+
+-- entries of which each lies at the place of its own number
+module _ (p : ℕ) where
+  lies_elsewhere : (e : Entry) → (e.place ≡ p → ⊥) → lies p e ≡ 0
+  lies_elsewhere e other = by (e.place == p) refl
+    where
+      by : (x : Bool) → e.place == p ≡ x → ◌≡◌ {A = ℕ} (cond x 1 0) 0
+      by true same = absurd (other (eqb-true e.place p same))
+      by false same = refl
+
+  lies_once : (e : Entry) → lies p e ≤ 1
+  lies_once e = by (e.place == p)
+    where
+      by : (x : Bool) → cond x 1 0 ≤ 1
+      by true = omega arith
+      by false = omega arith
+
+  pub record AtMost (from : ℕ) (es : List Entry) : Type 0 where
+    pub none_below : p < from → times p es ≡ 0
+    pub one : times p es ≤ 1
+
+  next_in_order : (from : ℕ) (e : Entry) (es : List Entry) → e.place ≡ from → AtMost (suc from) es → AtMost from (e ∷ es)
+  next_in_order from e es here rest = by (cases_order p from)
+    where
+      by : (p ≡ from) ⊎ ((p < from) ⊎ (from < p)) → AtMost from (e ∷ es)
+      by (inl same) = let others = rest.none_below (omega arith) in let once = lies_once e in record { none_below = λ h. omega arith; one = omega arith }
+      by (inr (inl below)) = let others = rest.none_below (omega arith) in let elsewhere = lies_elsewhere e (λ x. omega arith) in record { none_below = λ h. omega arith; one = omega arith }
+      by (inr (inr above)) = let most = rest.one in let elsewhere = lies_elsewhere e (λ x. omega arith) in record { none_below = λ h. omega arith; one = omega arith }
+
+  in_order : (es : List Entry) (from : ℕ) → ((k : ℕ) (d : Entry) → k < length es → (get_or es k d).place ≡ from + k) → AtMost from es
+  in_order [] from own = record { none_below = λ h. refl; one = omega arith }
+  in_order (e ∷ es) from own =
+      next_in_order from e es (omega (arith, own 0 e (omega arith)))
+      (in_order es (suc from) (λ k d h. omega (arith, own (suc k) d (omega arith))))
+
+pub in_order_apart : (es : List Entry) → ((k : ℕ) (d : Entry) → k < length es → (get_or es k d).place ≡ k) → Apart es
+in_order_apart es own p = (in_order p es 0 (λ k d h. omega (arith, own k d h))).one

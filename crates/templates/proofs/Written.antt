@@ -1,6 +1,7 @@
 -- Memory after a piece was written into it.
 use Rattle.std.proofs.Common.{◌≡◌, ℕ, ◌+◌, ◌-◌, ◌≤◌, List, ◌++◌, length, take, drop, sym, refl, ap, ◌∙◌, ap₂, append_assoc, arith, length-append, length-drop, length-take}
 use borrow.Rule.Slice.PartMut.{put_mid}
+use Rattle.std.proofs.Math.Seq.{take-append_seam}
 use Rattle.std.proofs.lemmas.Grind.{common_steps}
 use Rattle.std.proofs.lemmas.List.{take-append-le, take-take, drop-append-le, drop_at, drop-drop, drop-take, length-take-le, take-append-drop}
 use Rattle.templates.specs.Writing.{written}
@@ -24,6 +25,12 @@ module _ {A : Type 0} where
       ap₂ (λ (x y : List A). take at m ++ (x ++ y)) (e ∙ ap (λ x. p ++ x) cut) behind
       ∙ ap (λ x. take at m ++ x) (append_assoc p _ _ ∙ ap (λ x. p ++ x) (take-append-drop (size - length p) (drop (at + length p) m)))
 
+  -- memory that is lent, of whose part from `at` on the front was written
+  pub written_lent : (lent m p q : List A) (at size n : ℕ) → lent ≡ m → n ≡ length p → n ≤ size → q ≡ p ++ drop n (take size (drop at lent)) → put_mid at size lent q ≡ written m at p
+  written_lent lent m p q at size n same counts fits e =
+      written_front lent p q at size (omega arith) (e ∙ ap (λ k. p ++ drop k (take size (drop at lent))) counts)
+      ∙ ap (λ (xs : List A). written xs at p) same
+
   -- reading before, at and behind the piece
   pub read_before : (m p : List A) (at a k : ℕ) → at ≤ length m → a + k ≤ at → take k (drop a (written m at p)) ≡ take k (drop a m)
   read_before m p at a k room h =
@@ -41,3 +48,8 @@ module _ {A : Type 0} where
       let rest = drop_at p (drop (at + length p) m) (length p) refl in
       let last = drop-drop (a - at - length p) (at + length p) m in
       grind arith
+
+  pub read_there : (m p : List A) (at : ℕ) → at ≤ length m → take (length p) (drop at (written m at p)) ≡ p
+  read_there m p at room =
+      let size = length-take-le at m room in
+      ap (take (length p)) (drop_at (take at m) (p ++ drop (at + length p) m) at size) ∙ take-append_seam p (drop (at + length p) m)

@@ -1,19 +1,24 @@
 -- What the templates that an engine holds stand for.
-use Rattle.std.specs.Prelude.{◌≡◌, ℕ, zero, suc, ◌<◌, ◌≤◌, List, [], ◌∷◌, length, get_or, take, Some, None, vec_items, slice_index_or}
+use Rattle.std.specs.Prelude.{◌≡◌, ℕ, zero, suc, ◌<◌, ◌≤◌, Bool, true, false, ◌&&◌, nat_le, List, [], ◌∷◌, length, get_or, take, Some, None, Ok, Err, Result, vec_items, slice_index_or}
 use Rattle.std.proofs.Math.Option.{Option, none, some}
 use Rattle.std.specs.declared.option.Option as code_option
 use Rattle.meaning.specs.Or.{Or, fails, gives}
 use Rattle.meaning.specs.Charge.{Charge}
-use Rattle.meaning.specs.Fault.{Fault}
+use Rattle.meaning.specs.Fault.{Fault, fault}
+use Rattle.meaning.specs.FaultRecords.{fault_of}
+use Rattle.meaning.specs.Names.{name_of, well_named}
 use Rattle.meaning.specs.Reading.{Template, find}
 use Rattle.meaning.specs.Reading as reading
 use Rattle.meaning.specs.Tree.{done}
 use Rattle.meaning.specs.Value.{Text, Value}
+use Rattle.meaning.specs.declared.fault.Cause.TheVariants.{BadName, TemplatesFull, StoreFull}
+use Rattle.meaning.specs.declared.fault.Fault as code
+use Rattle.meaning.specs.declared.name.Name.{Name}
 use Rattle.program.specs.Program as program
 use Rattle.compiler.specs.declared.instr.Instr.{Instr}
 use Rattle.compiler.specs.Records.{instr_of}
 use Rattle.model.specs.Model.{Model}
-use Rattle.templates.specs.Entries.{held, trees}
+use Rattle.templates.specs.Entries.{held, trees, named, Goes}
 use Rattle.templates.specs.declared.entry.Entry.{Entry}
 use Rattle.templates.specs.declared.table.Templates.{Templates}
 
@@ -28,10 +33,30 @@ templates_of t = held (vec_items t.bytes) (entries_of t)
 abbrev pub model_of : (supply : Charge) (loaded : Value) → Templates → Model
 model_of supply loaded t = record { supply = supply; templates = templates_of t; loaded = loaded }
 
--- what a call leaves: a fault changes nothing
-abbrev pub left_by : Model → Or Fault Model → Model
-left_by m (gives n) = n
-left_by m (fails f) = m
+-- memory for 16 templates, with none in it yet
+abbrev pub enough : (bytes instrs : ℕ) → Bool
+enough bytes instrs = nat_le 262144 bytes && nat_le 16384 instrs
+
+abbrev pub Opens : (bytes instrs : ℕ) → Result Templates code.Fault → Type 0
+Opens bytes instrs (Ok t) = (enough bytes instrs ≡ true) × (templates_of t ≡ [])
+Opens bytes instrs (Err f) = (enough bytes instrs ≡ false) × (fault_of f ≡ fault StoreFull 0)
+
+-- the answer of a call and what it leaves, which are the model's: a fault changes nothing
+abbrev pub Leaves : (supply : Charge) (loaded : Value) → (before after : Templates) → Or Fault Model → Result (Unit {0}) code.Fault → Type 0
+Leaves supply loaded before after (gives m) (Ok u) = model_of supply loaded after ≡ m
+Leaves supply loaded before after (gives m) (Err f) = ⊥
+Leaves supply loaded before after (fails w) (Ok u) = ⊥
+Leaves supply loaded before after (fails w) (Err f) = (fault_of f ≡ w) × (after ≡ before)
+
+-- bytes are a name, or are refused
+abbrev pub WellNamed : Text → Result Name code.Fault → Type 0
+WellNamed bytes (Ok n) = (well_named bytes ≡ true) × (name_of n ≡ bytes)
+WellNamed bytes (Err f) = (well_named bytes ≡ false) × (fault_of f ≡ fault BadName 0)
+
+-- a template of the name has an index to go to, or there is no room for another
+abbrev pub HasIndex : Text → Templates → Result ℕ code.Fault → Type 0
+HasIndex name t (Ok at) = (at < 16) × Goes name (entries_of t) at
+HasIndex name t (Err f) = (length (entries_of t) ≡ 16) × (named name (entries_of t) ≡ false) × (fault_of f ≡ fault TemplatesFull 0)
 
 -- ONE OF THEM, by its index
 

@@ -1,5 +1,5 @@
 -- What is written into supplied memory.
-use Rattle.std.specs.Prelude.{◌≡◌, ℕ, ◌+◌, ◌<◌, ◌≤◌, List, ◌++◌, length, take, drop, Ok, Err, Result}
+use Rattle.std.specs.Prelude.{◌≡◌, ℕ, ◌+◌, ◌<◌, ◌≤◌, true, List, ◌++◌, length, take, drop, Ok, Err, Result}
 use Rattle.meaning.specs.Fault.{fault}
 use Rattle.meaning.specs.declared.fault.Cause.TheVariants.{TooManyInstructions}
 use Rattle.meaning.specs.declared.fault.Fault.{Fault}
@@ -7,6 +7,8 @@ use Rattle.meaning.specs.FaultRecords.{fault_of}
 use Rattle.program.specs.Program as program
 use Rattle.compiler.specs.declared.instr.Instr.{Instr}
 use Rattle.compiler.specs.Records.{Mean}
+use Rattle.templates.specs.Entries.{bytes_at, instrs_at, source_of, tree_of, records_of, sound}
+use Rattle.templates.specs.declared.entry.Entry.{Entry}
 
 -- memory with a piece written over what stood from `at` on
 abbrev pub written : {A : Type 0} → List A → ℕ → List A → List A
@@ -24,3 +26,15 @@ pub record Programmed (tree : List ℕ) (code : List program.Instr) (at count : 
   pub counts : count ≡ length code
   pub short : count ≤ 1024
   pub is : after ≡ written before at records
+
+-- every place but one is as it was
+pub record Elsewhere (place : ℕ) (bytes after : List ℕ) (instrs records : List Instr) : Type 0 where
+  pub bytes_same : (q : ℕ) → (q ≡ place → ⊥) → bytes_at after q ≡ bytes_at bytes q
+  pub instrs_same : (q : ℕ) → (q ≡ place → ⊥) → instrs_at records q ≡ instrs_at instrs q
+
+-- a template was written to the place of an entry, which tells of it
+pub record Placed (source tree : List ℕ) (e : Entry) (bytes after : List ℕ) (instrs records : List Instr) : Type 0 where
+  pub source_is : source_of after e ≡ source
+  pub tree_is : tree_of after e ≡ tree
+  pub is_sound : sound (source_of after e) (tree_of after e) (records_of records e) ≡ true
+  pub elsewhere : Elsewhere e.place bytes after instrs records

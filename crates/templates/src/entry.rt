@@ -1,8 +1,11 @@
 //! An entry of the table: a name, and where its template lies.
 
-ghost use Rattle.std.specs.Prelude.{◌<◌, ◌≤◌};
+ghost use Rattle.std.specs.Prelude.{◌≡◌, ◌<◌, ◌≤◌};
 
 use meaning::name::Name;
+
+/// How many entries there are, and as many places.
+pub(crate) const PLACES: usize = 16;
 
 /// How many bytes lie at a place, and how many of them before the tree.
 pub(crate) const PLACE_BYTES: usize = 16384;
@@ -25,4 +28,21 @@ pub struct Entry {
     ghost source: { source_len ≤ 8192 },
     ghost tree: { tree_len ≤ 8192 },
     ghost program: { len ≤ 1024 },
+}
+
+impl Entry {
+    /// An entry that is not in use, with a place that is free.
+    pub(crate) fn free(place: usize) -> Entry
+        requires { place < 16 }
+        ensures { result.place ≡ place }
+    {
+        Entry {
+            // some name, which nothing reads
+            name: Name::new(b"-").unwrap(),
+            place,
+            source_len: 0,
+            tree_len: 0,
+            len: 0,
+        }
+    }
 }

@@ -3,9 +3,10 @@
 ghost use Rattle.std.specs.Prelude.{◌≡◌, ◌≤◌, true, length, take, vec_len};
 ghost use Rattle.templates.specs.Entries.{Apart, all_sound};
 
-use crate::entry::Entry;
+use crate::entry::{Entry, PLACES};
 use compiler::instr::Instr;
 
+pub mod changing;
 pub mod reading;
 
 /// At most 16 templates under their names. Those in use come first, in the order in which their names were added.
@@ -14,7 +15,7 @@ pub mod reading;
 pub struct Templates {
     bytes: Vec<u8>,
     instrs: Vec<Instr>,
-    entries: [Entry; 16],
+    entries: [Entry; PLACES],
     count: usize,
     ghost table: { length entries ≡ 16 },
     ghost few: { count ≤ 16 },
