@@ -1,0 +1,17 @@
+pub mod Order
+pub mod Beside
+pub mod Statements
+pub mod Same
+pub mod Scope
+pub mod Boundary
+pub mod Tally
+pub mod Depth
+pub mod Included
+pub mod Renderings
+pub mod Forms
+pub mod Paths
+pub mod Spans
+pub mod Faults
+pub mod Nameless
+pub mod Costs
+pub mod Placed

@@ -1,0 +1,5 @@
+use Rattle.laws.proofs.Scope.{loops_read_each_entry}
+use Rattle.laws.proofs.loops_read_each_entry.Goals as goal
+
+pub returns : goal.returns
+returns c = loops_read_each_entry

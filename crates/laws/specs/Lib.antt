@@ -1,0 +1,13 @@
+pub mod Places
+pub mod Order
+pub mod GoesOn
+pub mod Scope
+pub mod Boundary
+pub mod Tally
+pub mod Depth
+pub mod Included
+pub mod Called
+pub mod Renderings
+pub mod Forms
+pub mod Paths
+pub mod Faults
