@@ -52,7 +52,7 @@ fn refuse_map(bytes: &[u8], start: usize, pos: usize, count: u16) -> Refusal
 
 /// The value at `pos`, which may have so many levels.
 #[cycle(parts)]
-fn measure_value(bytes: &[u8], pos: usize, levels: usize) -> Result<(Cost, usize), Refusal>
+pub fn measure_value(bytes: &[u8], pos: usize, levels: usize) -> Result<(Cost, usize), Refusal>
     requires { pos ≤ length bytes.now }
     ensures same { heard charge_of bytes.now result ≡ weigh cost (value_within levels (drop pos bytes.now)) }
     ensures moves { ValueMoves bytes.now pos result }
