@@ -29,13 +29,14 @@ absent_or (Some part) op absent = Ok (Some part)
 absent_or None Direct absent = Err absent
 absent_or None Optional absent = Ok None
 
--- the part was found in a place, or there is none, or the cause
+-- a place was found where the part stands, or there is no part
 abbrev pub FoundIn : {P : Type 0} → (P → Value → Type 0) → Option Value → code.Option P → Type 0
 FoundIn stands (some v) (Some place) = stands place v
 FoundIn stands (some v) None = ⊥
 FoundIn stands none (Some place) = ⊥
 FoundIn stands none None = Unit {0}
 
+-- the same, or the cause
 abbrev pub Tells : {P : Type 0} → (P → Value → Type 0) → Or Cause (Option Value) → Result (code.Option P) Cause → Type 0
 Tells stands (gives o) (Ok place) = FoundIn stands o place
 Tells stands (gives o) (Err cause) = ⊥

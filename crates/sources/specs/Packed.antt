@@ -11,27 +11,29 @@ use Rattle.packing.specs.Unpacking.{entries, items, unpack_value, value_within}
 use Rattle.sources.specs.declared.packed.PackedParts.{PackedParts}
 use Rattle.sources.specs.declared.packed.PackedValue.{PackedValue}
 
+-- the value is packed there, in front of other bytes
 abbrev pub Stands : PackedValue → Value → Type 0
 Stands p v = (rest : List ℕ) × (value_within p.levels p.bytes.now ≡ read v rest)
 
+-- the items of a list are
 abbrev pub StandItems : PackedParts → Items → Type 0
 StandItems p vs = (rest : List ℕ) × (items (value_within p.levels) p.count p.bytes.now ≡ read vs rest)
 
--- the entries of a map, whichever key stood before them
+-- the entries of a map are, whichever key stood before them
 abbrev pub StandEntries : PackedParts → Entries → Type 0
 StandEntries p es = (at : ℕ) × (before : Before) × (rest : List ℕ) × (entries at true (value_within p.levels) p.count before p.bytes.now ≡ read es rest)
 
--- the bytes that are left
+-- these bytes are left
 abbrev pub Left : List ℕ → code.Option (Bor (List ℕ)) → Type 0
 Left rest (Some bytes) = bytes.now ≡ rest
 Left rest None = ⊥
 
--- the items of a list, or that the value is none
+-- the items of a list, or that the value is no list
 abbrev pub ItemsOf : Value → code.Option PackedParts → Type 0
 ItemsOf v (Some p) = (vs : Items) × (v ≡ list vs) × StandItems p vs
 ItemsOf v None = (vs : Items) → v ≡ list vs → ⊥
 
--- the entries of a map, likewise
+-- the entries of a map, or that the value is no map
 abbrev pub EntriesOf : Value → code.Option PackedParts → Type 0
 EntriesOf v (Some p) = (es : Entries) × (v ≡ map es) × StandEntries p es
 EntriesOf v None = (es : Entries) → v ≡ map es → ⊥

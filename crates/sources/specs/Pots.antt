@@ -6,6 +6,7 @@ use Rattle.sources.specs.declared.pot.Pot as the_pot
 use Rattle.sources.specs.declared.pot_log.LogPlace.{LogPlace}
 use Rattle.sources.specs.declared.pot_log.LogPlace.TheVariants.{Log, Pots, Pot, Field}
 
+-- the fields of a pot
 abbrev pub entries_of : the_pot.Pot → Entries
 entries_of p =
     entry (codes "depth") (integer (pos p.depth))
@@ -31,7 +32,7 @@ value_of_log the_pots = map (entry (codes "pots") (list the_pots) no_entries)
 abbrev pub all_pots : List ℕ → Items
 all_pots log = pots (length log / 12) log
 
--- what a place in a log stands for
+-- the value that stands at a place of a log
 abbrev pub value_at : LogPlace → Value
 value_at (Log records) = value_of_log (pots_in records.now)
 value_at (Pots records) = list (pots_in records.now)

@@ -21,6 +21,10 @@ const NAMES: &[u8] = b"pots lat number a";
 /// pots
 const ALL: &[u8] = b"\x00\x01\x00\x00\x04\x00\x00\x00\x04\x00";
 
+/// pots[1]
+const SECOND: &[u8] =
+    b"\x00\x01\x00\x00\x04\x00\x00\x00\x04\x00\x00\x00\x01\x00\x00\x00\x05\x00\x08\x00\x04\x00\x08\x00";
+
 /// pots[1].lat
 const SECOND_LAT: &[u8] =
     b"\x00\x01\x00\x00\x04\x00\x00\x00\x04\x00\x00\x00\x01\x00\x00\x00\x05\x00\x08\x00\x04\x00\x08\x00\x00\x01\x05\x00\x08\x00\x04\x00\x08\x00";
@@ -156,6 +160,31 @@ fn a_list_has_the_room_that_it_costs(rt: HostRuntime) {
     assert_eq!(rt; ask::<30, PotLog>(&log, 1, ALL), (Err(None), Tally::EMPTY));
 }
 
+#[test]
+fn a_map_has_the_room_that_it_costs(rt: HostRuntime) {
+    let log = PotLog::new(POTS);
+    let pot = Tally {
+        cells: 9,
+        bytes: 17,
+    };
+    assert_eq!(rt;
+        ask::<9, PotLog>(&log, 2, SECOND),
+        (Ok((Kind::Map, 4)), pot)
+    );
+    assert_eq!(rt;
+        ask::<8, PotLog>(&log, 2, SECOND),
+        (Err(None), Tally::EMPTY)
+    );
+    let whole = Tally {
+        cells: 33,
+        bytes: 55,
+    };
+    assert_eq!(rt;
+        ask::<33, PotLog>(&log, 0, b""),
+        (Ok((Kind::Map, 1)), whole)
+    );
+}
+
 // The value {"pots": [none, "cod"]}: its second item costs a cell and three bytes.
 #[test]
 fn a_packed_value_is_walked(rt: HostRuntime) {
@@ -165,11 +194,11 @@ fn a_packed_value_is_walked(rt: HostRuntime) {
     };
     let string = Tally { cells: 1, bytes: 3 };
     assert_eq!(rt;
-        ask::<1, ValueWalk>(&walk, 2, &SECOND_LAT[..24]),
+        ask::<1, ValueWalk>(&walk, 2, SECOND),
         (Ok((Kind::String, 3)), string)
     );
     assert_eq!(rt;
-        ask::<0, ValueWalk>(&walk, 2, &SECOND_LAT[..24]),
+        ask::<0, ValueWalk>(&walk, 2, SECOND),
         (Err(None), Tally::EMPTY)
     );
     assert_eq!(rt;
