@@ -15,3 +15,8 @@ pub mod Faults
 pub mod Nameless
 pub mod Costs
 pub mod Placed
+pub mod Truth
+pub mod Text
+pub mod Calls
+pub mod Orders
+pub mod WellFormed

@@ -32,7 +32,7 @@ paths_are_walked_in_order source v (m ∷ first) further =
 
 -- OPTIONAL MEMBERS
 
-abbrev IsFound : Walked Member → Type 0
+abbrev pub IsFound : {X : Type 0} → Walked X → Type 0
 IsFound (found v) = Unit {0}
 IsFound missed = ⊥
 IsFound (failed m c d) = ⊥

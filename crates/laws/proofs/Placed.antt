@@ -121,11 +121,11 @@ module _ (source : Text) (Good : Span → Type 0) (good : (span : Span) → Insi
 
 -- TEMPLATES THAT ARE HELD
 
-abbrev Limited : Option Template → Type 0
+abbrev pub Limited : Option Template → Type 0
 Limited (some template) = Limits template.source template.tree
 Limited none = Unit {0}
 
-held_limited : (templates : Templates) → AllChecked templates → (name : Text) → Limited (find templates name)
+pub held_limited : (templates : Templates) → AllChecked templates → (name : Text) → Limited (find templates name)
 held_limited [] all name = tt
 held_limited ((other, template) ∷ rest) all name = by (same_text name other) (held_limited rest all.1 name)
   where

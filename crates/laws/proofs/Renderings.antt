@@ -104,7 +104,7 @@ higher_maxima_render_the_same hosts m name depth higher bottom reading up most e
 -- OTHER TEMPLATES
 
 mutual
-  each_also : (Has Also : Text → Type 0) → ((name : Text) → Has name → Also name) → (scope : Scope) → EachIncluded Has scope → EachIncluded Also scope
+  pub each_also : (Has Also : Text → Type 0) → ((name : Text) → Has name → Also name) → (scope : Scope) → EachIncluded Has scope → EachIncluded Also scope
   each_also Has Also h done known = tt
   each_also Has Also h (stmt then rest) known = (each_by_one_also Has Also h stmt known.0, each_also Has Also h rest known.1)
 

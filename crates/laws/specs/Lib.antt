@@ -11,3 +11,6 @@ pub mod Renderings
 pub mod Forms
 pub mod Paths
 pub mod Faults
+pub mod Truth
+pub mod Text
+pub mod Calls

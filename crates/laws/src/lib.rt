@@ -1,5 +1,5 @@
 //! Laws of the meaning of templates, in the words of those who write them.
-//! Each function stands for a theorem, which its contract names.
+//! Each function stands for a theorem, which its contract names. S is what a sink is in.
 
 #![tactic(auto)]
 
@@ -15,6 +15,9 @@ ghost use Rattle.laws.specs.Depth.{MoreTemplatesMayBeOpen, NoneIsOneTooMany, AsM
 ghost use Rattle.laws.specs.Included.{OnlyIncludedTemplatesCount};
 ghost use Rattle.laws.specs.Called.{OnlyNamedCallablesCount};
 ghost use Rattle.laws.specs.Renderings.{MoreSupplyRendersTheSame, LoadedValuesOnlyTakeRoom, HigherMaximaRenderTheSame, UnusedTemplatesChangeNothing, FaultsLieInTheirSource};
+ghost use Rattle.laws.specs.Truth.{OnlyTheseAreFalse, IndexesFindTheirPart, KeysFindTheirPart, OptionalNeverFaults};
+ghost use Rattle.laws.specs.Text.{TextsAreWritten, TextsAreJoined, TextsAreOnePiece, RenderingsAreText, PagesHoldText, ChartHostsAnswerText};
+ghost use Rattle.laws.specs.Calls.{RefusedCallsMayBeLeftOut, RemovingTakesBack, LoadingReplaces, AddingHasNoOrder};
 
 // ORDER, AND FAULTS
 
@@ -56,6 +59,50 @@ pub fn pieces_say_where() -> u8
 /// What a template is called is only reported: under another name the same is read, but for names in pieces and faults.
 pub fn names_are_only_reported() -> u8
     ensures { NamesAreOnlyReported }
+{
+    0
+}
+
+// TEXT
+
+/// On a page that is large enough, a reading leaves just its text behind what was there.
+pub fn texts_are_written() -> u8
+    ensures { TextsAreWritten }
+{
+    0
+}
+
+/// The text of a finished reading is that of its statements, joined.
+pub fn texts_are_joined() -> u8
+    ensures { TextsAreJoined }
+{
+    0
+}
+
+/// Every lawful sink takes the pieces of a finished reading as it takes their text in one piece.
+pub fn texts_are_one_piece<S>() -> u8
+    ensures { TextsAreOnePiece S }
+{
+    0
+}
+
+/// Where hosts answer well-formed text, each piece of a sound engine's rendering is well-formed, and so is the text.
+pub fn renderings_are_text() -> u8
+    ensures { RenderingsAreText }
+{
+    0
+}
+
+/// Then a page of well-formed text holds such text after a rendering, whatever the answer.
+pub fn pages_hold_text() -> u8
+    ensures { PagesHoldText }
+{
+    0
+}
+
+/// The chart set, the plain formatter and the two value sources answer well-formed text.
+pub fn chart_hosts_answer_text() -> u8
+    ensures { ChartHostsAnswerText }
 {
     0
 }
@@ -125,6 +172,8 @@ pub fn loops_read_each_entry() -> u8
     0
 }
 
+// VALUES
+
 /// A path is walked member by member: first the one half, and from what that finds the other.
 pub fn paths_are_walked_in_order() -> u8
     ensures { PathsAreWalkedInOrder }
@@ -149,6 +198,34 @@ pub fn inserting_replaces() -> u8
 /// A part that is appended to a list is the last, and the others stay.
 pub fn appending_comes_last() -> u8
     ensures { AppendingComesLast }
+{
+    0
+}
+
+/// False are none, false, 0, both float zeros, and the empty string, list and map, and no other value.
+pub fn only_these_are_false() -> u8
+    ensures { OnlyTheseAreFalse }
+{
+    0
+}
+
+/// An index of a list finds the part of that number and no other.
+pub fn indexes_find_their_part() -> u8
+    ensures { IndexesFindTheirPart }
+{
+    0
+}
+
+/// A key of a map finds the part under just that key and no other: keys that differ anywhere are two keys.
+pub fn keys_find_their_part() -> u8
+    ensures { KeysFindTheirPart }
+{
+    0
+}
+
+/// An optional member never faults by an index of a list or a key of a map.
+pub fn optional_never_faults() -> u8
+    ensures { OptionalNeverFaults }
 {
     0
 }
@@ -343,6 +420,36 @@ pub fn unused_templates_change_nothing() -> u8
 /// A rendering's fault at a span lies in the source of the template that it names, between characters; also where the sink stops.
 pub fn faults_lie_in_their_source() -> u8
     ensures { FaultsLieInTheirSource }
+{
+    0
+}
+
+// CALLS OF AN ENGINE
+
+/// A refused call could be left out: all other answers, the engine and the sink are the same.
+pub fn refused_calls_may_be_left_out<S>() -> u8
+    ensures { RefusedCallsMayBeLeftOut S }
+{
+    0
+}
+
+/// A new name that is added and then removed leaves the engine as it was.
+pub fn removing_takes_back() -> u8
+    ensures { RemovingTakesBack }
+{
+    0
+}
+
+/// A second loading does what it would have done without the first.
+pub fn loading_replaces() -> u8
+    ensures { LoadingReplaces }
+{
+    0
+}
+
+/// Two names that differ can be added in either order: whatever is called after them is answered the same.
+pub fn adding_has_no_order<S>() -> u8
+    ensures { AddingHasNoOrder S }
 {
     0
 }
