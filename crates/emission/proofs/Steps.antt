@@ -19,7 +19,7 @@ use Rattle.emission.specs.Offers.{Offers}
 module _ (sink : Sink) (world : World) (frame : Frame) (next : ℕ) (below : List Open) (scopes : List Entry) (values : List Held)
     (m n : sink.State) (before after : Store) where
   abbrev pub went_on : Next sink.State
-  went_on = freed scopes (λ floor. standing frame next below scopes values floor n)
+  went_on = freed scopes values (λ floor. standing frame next below scopes values floor n)
 
   abbrev pub ended : code.Fault → Next sink.State
   ended g = faulted (in_template frame.name (fault_of g)) scopes n
@@ -29,7 +29,7 @@ module _ (sink : Sink) (world : World) (frame : Frame) (next : ℕ) (below : Lis
     event = offers (record { bytes = bytes; template = frame.name; span = span })
 
     abbrev pub after_offer : Taken sink.State → Next sink.State
-    after_offer t = taken t event scopes m (λ k. freed scopes (λ floor. standing frame next below scopes values floor k))
+    after_offer t = taken t event scopes m (λ k. freed scopes values (λ floor. standing frame next below scopes values floor k))
 
     pub offered : Offers m n bytes span (sink.take m bytes) (Ok tt) → offer (observing sink.take) world frame next below event scopes values m ≡ went_on
     offered h = by (sink.take m bytes) h

@@ -1,4 +1,5 @@
-mod Pushing
+pub mod Pushing
+pub mod Places
 mod Blames
 pub mod Calls
 mod Texts

@@ -1,5 +1,5 @@
 -- What an instruction of an expression does: it pushes the value that it makes, or faults.
-use Rattle.std.specs.Prelude.{◌≡◌, ℕ, ◌<◌, ◌≤◌, List, ◌∷◌, length, drop, Ok, Err, Result}
+use Rattle.std.specs.Prelude.{◌≡◌, ℕ, ◌<◌, ◌≤◌, List, ◌∷◌, length, Ok, Err, Result}
 use Rattle.meaning.specs.Or.{Or, fails, gives}
 use Rattle.meaning.specs.Charge.{Charge, charge}
 use Rattle.meaning.specs.Fault.{Fault, fault_at}
@@ -21,9 +21,19 @@ use Rattle.hosts.specs.Answers.{AllKnown, arguments_in}
 use Rattle.hosts.specs.declared.answer.Argument.{Argument}
 use Rattle.scopes.specs.Told.{Fails}
 
--- there is room for one value more
-pub record Spare (values : Stack Argument) : Type 0 where
-  pub few : length (entries values) < most_values
+-- where there is a value to push, there is room for it
+abbrev pub RoomFor : Or Fault (Value × Charge) → List Argument → Type 0
+RoomFor (gives x) values = length values < most_values
+RoomFor (fails f) values = Unit {0}
+
+-- where a value was made, there is a place for it
+abbrev pub PlaceFor : Result Ref Full → Stack Argument → Type 0
+PlaceFor (Ok r) values = length (entries values) < room values
+PlaceFor (Err full) values = Unit {0}
+
+-- what is to be pushed has room on a stack that is large enough
+pub record Spare (answer : Or Fault (Value × Charge)) (values : Stack Argument) : Type 0 where
+  pub few : RoomFor answer (entries values)
   pub roomy : most_values ≤ room values
 
 -- the value stands on top, reported at the span, and so much is in use
@@ -39,21 +49,18 @@ Pushes before after values values' span (gives (v, tally)) (Err g) = ⊥
 Pushes before after values values' span (fails f) (Ok done) = ⊥
 Pushes before after values values' span (fails f) (Err g) = Fails before after f g
 
--- there are so many values, and room for one in their place
+-- there are so many values
 pub record Enough (arity : ℕ) (values : Stack Argument) : Type 0 where
   pub there : arity ≤ length (entries values)
-  pub few : length (drop arity (entries values)) < most_values
   pub roomy : most_values ≤ room values
 
--- there are two values, of which the second is of that kind, and room in their place
+-- there are two values, of which the second is of that kind
 pub record Two (s : Store) (values : Stack Argument) (kind : Kind) : Type 0 where
   pub newest : Argument
   pub second : Argument
   pub under : List Argument
   pub are : entries values ≡ newest ∷ second ∷ under
   pub is_kind : kind_of (value s second.value) ≡ kind
-  pub few : length under < most_values
-  pub roomy : most_values ≤ room values
 
 -- what becomes of the two newest values, whichever they are: what is made of them is reported where the second was
 abbrev pub Joins : (before after : Store) (values values' : List Argument) → (Value → Value → Value) → Charge → Result (Unit {0}) code.Fault → Type 0

@@ -9,7 +9,7 @@ ghost use Rattle.store.specs.declared.memory.Store.{Store as Memory};
 ghost use Rattle.hosts.specs.Answers.{AllKnown, arguments_in, function_of, kind_of};
 ghost use Rattle.scopes.specs.Told.{Tells};
 ghost use Rattle.expressions.specs.Calling.{arguments, calling};
-ghost use Rattle.expressions.specs.Pushing.{Enough, Pushes};
+ghost use Rattle.expressions.specs.Pushing.{Enough, Pushes, RoomFor};
 
 use hosts::answer::{Argument, CallableKind, Unmade};
 use hosts::callables::Callables;
@@ -95,6 +95,7 @@ pub fn apply<C: Callables>(
     call: Call,
 ) -> Result<(), Fault>
     requires enough { Enough call.arity values.old }
+    requires few { RoomFor (applied (calling (supply store.old) (C.Callables.named callables.now)) source.now [] call.name call.whole (arguments store.old call.arity (entries values.old)) (used store.old)) (drop call.arity (entries values.old)) }
     requires known { AllKnown store.old (entries values.old) }
     ensures kept { Kept values.old values.new }
     ensures pushes { Pushes store.old store.new (drop call.arity (entries values.old)) (entries values.new) call.whole (applied (calling (supply store.old) (C.Callables.named callables.now)) source.now [] call.name call.whole (arguments store.old call.arity (entries values.old)) (used store.old)) result }

@@ -134,7 +134,7 @@ module _ (templates : Templates) (a b : Store) (at : Charge) (k : Keeps at a b) 
         ap (λ (kind : Kind). record { kind = kind; floor = charged e.floor }) (kind_kept (charged e.floor) e.state low l.0.fits) in
         ap₂ (λ (x : Entry) (xs : List Entry). x ∷ xs) same (entries_kept (charged e.floor) es low l.1)
 
-module _ (templates : Templates) (a b : Store) (es : List Scope) (from : ValueSource) where
+module _ (templates : Templates) (a b : Store) (es : List Scope) where
   -- what grew
   pub over_layered : Over a b → Layered templates a (used a) es → Layered templates b (used b) es
   over_layered o l =
@@ -142,11 +142,11 @@ module _ (templates : Templates) (a b : Store) (es : List Scope) (from : ValueSo
       layered_below templates b (used a) (used b) es grown.cells_low grown.bytes_low
       (layered_kept templates a b (used a) (over_keeps a b o) (used a) es (omega arith) (omega arith) l)
 
-  pub over_entries : Over a b → Layered templates a (used a) es → entries_in templates b from es ≡ entries_in templates a from es
-  over_entries o l = entries_kept templates a b (used a) (over_keeps a b o) from (used a) es (omega arith) l
+  pub over_entries : (from : ValueSource) → Over a b → Layered templates a (used a) es → entries_in templates b from es ≡ entries_in templates a from es
+  over_entries from o l = entries_kept templates a b (used a) (over_keeps a b o) from (used a) es (omega arith) l
 
 -- what was put back to the floor of the top entry
-module _ (templates : Templates) (a b : Store) (above : Charge) (e : Scope) (es : List Scope) (from : ValueSource) where
+module _ (templates : Templates) (a b : Store) (above : Charge) (e : Scope) (es : List Scope) where
   top_layered : Layered templates a above (e ∷ es) → Layered templates a (charged e.floor) (e ∷ es)
   top_layered l = (record { height = l.0.height; cells_low = omega arith; bytes_low = omega arith; fits = l.0.fits }, l.1)
 
@@ -155,5 +155,5 @@ module _ (templates : Templates) (a b : Store) (above : Charge) (e : Scope) (es 
       layered_below templates b (charged e.floor) (used b) (e ∷ es) (omega (arith, cells_paid f.at_height)) (omega (arith, bytes_paid f.at_height))
       (layered_kept templates a b (charged e.floor) (freed_keeps a b (charged e.floor) f) (charged e.floor) (e ∷ es) (omega arith) (omega arith) (top_layered l))
 
-  pub freed_entries : Freed a b (charged e.floor) → Layered templates a above (e ∷ es) → entries_in templates b from (e ∷ es) ≡ entries_in templates a from (e ∷ es)
-  freed_entries f l = entries_kept templates a b (charged e.floor) (freed_keeps a b (charged e.floor) f) from (charged e.floor) (e ∷ es) (omega arith) (top_layered l)
+  pub freed_entries : (from : ValueSource) → Freed a b (charged e.floor) → Layered templates a above (e ∷ es) → entries_in templates b from (e ∷ es) ≡ entries_in templates a from (e ∷ es)
+  freed_entries from f l = entries_kept templates a b (charged e.floor) (freed_keeps a b (charged e.floor) f) from (charged e.floor) (e ∷ es) (omega arith) (top_layered l)

@@ -1,5 +1,5 @@
 -- What is read of the templates by an index.
-use Rattle.std.proofs.Common.{◌≡◌, ℕ, zero, suc, ◌+◌, ◌-◌, ◌*◌, ◌<◌, true, List, [], ◌∷◌, length, get_or, take, drop, Some, None, vec_items, sym, ap, subst, ◌∙◌, ap₂, arith}
+use Rattle.std.proofs.Common.{◌≡◌, ℕ, zero, suc, ◌+◌, ◌-◌, ◌*◌, ◌<◌, ◌≤◌, true, List, [], ◌∷◌, length, get_or, take, drop, Some, None, vec_items, sym, ap, subst, ◌∙◌, ap₂, ⊎_elim, arith}
 use mathlib.Core.Option.{some}
 use Rattle.std.specs.declared.option.Option as code_option
 use Rattle.std.specs.List.{slice_get}
@@ -8,8 +8,8 @@ use Rattle.std.specs.Option.{option_copied}
 use Rattle.std.specs.Slice.{IsItemAt}
 use Rattle.std.proofs.lemmas.Grind.{common_steps}
 use Rattle.std.proofs.lemmas.Option.{slice_get_past, slice_get-get_or}
-use Rattle.std.proofs.lemmas.List.{length-take-le}
-use Rattle.std.proofs.lemmas.Bool.{and_parts}
+use Rattle.std.proofs.lemmas.List.{length-take-le, take-take, drop-take, drop-drop}
+use Rattle.std.proofs.lemmas.Bool.{and_parts, cases_lt}
 use Rattle.std.specs.Cmp.Lexicographic.{bytes_decides}
 use Rattle.meaning.specs.Fault.{Fault}
 use Rattle.meaning.specs.Names.{name_of}
@@ -23,7 +23,7 @@ use Rattle.checker.specs.Whole.{unpacks}
 use Rattle.checker.proofs.WholeThere.{template_scope}
 use Rattle.compiler.specs.declared.instr.Instr.{Instr}
 use Rattle.templates.specs.Entries.{source_of, tree_of, records_of, scope_of, template_of, trees, means, sound, Located}
-use Rattle.templates.specs.Held.{entries_of, templates_of, name_at, template_at, tree_at, Finds, Fetches}
+use Rattle.templates.specs.Held.{entries_of, templates_of, name_at, template_at, tree_at, FewInstrs, Finds, Fetches}
 use Rattle.templates.specs.declared.entry.Entry.{Entry}
 use Rattle.templates.specs.declared.table.Templates.{Templates}
 use Rattle.templates.proofs.Kept.{source_there, tree_there, records_there, sound_at}
@@ -52,6 +52,21 @@ lent xs ys start size e = grind arith
 pub item_is : {A : Type 0} (xs : List A) (i : ℕ) (r : code_option.Option (Bor A)) → IsItemAt xs i r → option_copied r ≡ slice_get xs i
 item_is xs i None h = sym (slice_get_past xs i h.3)
 item_is xs i (Some x) h = ap Some h.1 ∙ sym (slice_get-get_or xs i x.now h.3.0)
+
+short : {A : Type 0} (n : ℕ) (xs : List A) → length (take n xs) ≤ n
+short n xs = grind (arith, common_steps)
+
+any_few : (pc : ℕ) (r : code_option.Option Instr) → pc < 1024 → FewInstrs pc r
+any_few pc None few = tt
+any_few pc (Some i) few = few
+
+-- an instruction of an entry that there is
+pub few_instrs : (e : Entry) (xs : List Instr) (pc : ℕ) (r : code_option.Option Instr) → r ≡ slice_get (take e.len xs) pc → FewInstrs pc r
+few_instrs e xs pc r got =
+    ⊎_elim
+    (λ (within : pc < length (take e.len xs)). any_few pc r (omega (arith, within, short e.len xs, e.program)))
+    (λ (past : length (take e.len xs) ≤ pc). subst (FewInstrs pc) (sym (got ∙ slice_get_past (take e.len xs) pc past)) tt)
+    (cases_lt pc (length (take e.len xs)))
 
 module _ (t : Templates) where
   pub used : length (entries_of t) ≡ t.count

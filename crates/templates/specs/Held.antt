@@ -88,3 +88,8 @@ instr_at (x ∷ xs) (suc pc) = instr_at xs pc
 abbrev pub Fetches : (tree : List ℕ) → List program.Instr → (pc : ℕ) → code_option.Option Instr → Type 0
 Fetches tree code pc (Some i) = (pc < length code) × (instr_of tree i ≡ instr_at code pc)
 Fetches tree code pc None = length code ≤ pc
+
+-- a program has at most 1,024 instructions
+abbrev pub FewInstrs : (pc : ℕ) → code_option.Option Instr → Type 0
+FewInstrs pc (Some i) = pc < 1024
+FewInstrs pc None = Unit {0}

@@ -5,7 +5,7 @@ ghost use Rattle.meaning.specs.Names.{name_of};
 ghost use Rattle.meaning.specs.Or.{gives};
 ghost use Rattle.packing.specs.Unpacking.{unpack};
 ghost use Rattle.program.specs.Program as program;
-ghost use Rattle.templates.specs.Held.{Fetches, Finds, entries_of, name_at, template_at, templates_of, tree_at};
+ghost use Rattle.templates.specs.Held.{Fetches, FewInstrs, Finds, entries_of, name_at, template_at, templates_of, tree_at};
 
 use crate::entry::{Entry, PLACE_BYTES, PLACE_INSTRS, SOURCE_BYTES};
 use crate::lookup::index_of;
@@ -77,10 +77,11 @@ impl Templates {
     }
 
     /// The instruction `pc` of a template's program; none at its end and behind it.
-    #[tactic(auto, using(crate::proofs::Indexed::lent, crate::proofs::Indexed::item_is, crate::proofs::Indexed::fetched))]
+    #[tactic(auto, using(crate::proofs::Indexed::lent, crate::proofs::Indexed::item_is, crate::proofs::Indexed::fetched, crate::proofs::Indexed::few_instrs))]
     pub fn instr(&self, i: usize, pc: usize) -> Option<Instr>
         requires { i < length (templates_of self.now) }
-        ensures { Fetches (tree_at self.now i) (program.compile (template_at (templates_of self.now) i).tree) pc result }
+        ensures fetches { Fetches (tree_at self.now i) (program.compile (template_at (templates_of self.now) i).tree) pc result }
+        ensures few { FewInstrs pc result }
     {
         let entry = self.entry(i);
         let start = entry.place * PLACE_INSTRS;

@@ -1,0 +1,15 @@
+pub mod Emitting
+pub mod Executing
+pub mod Fetches
+pub mod Finds
+pub mod Growing
+pub mod Heights
+pub mod Including
+pub mod Joining
+pub mod Keeping
+pub mod Looping
+pub mod Loops
+pub mod Needs
+pub mod Ready
+pub mod Rest
+pub mod Stepping

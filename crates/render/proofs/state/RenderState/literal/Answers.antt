@@ -1,0 +1,38 @@
+use Rattle.std.proofs.Common.{refl}
+use Rattle.meaning.specs.Charge.{charge, cost}
+use Rattle.program.specs.Program.{ExprStartLiteral}
+use Rattle.reader.specs.Meanings.{plain_of}
+use Rattle.stack.specs.Entries.{entries}
+use Rattle.store.specs.Stores.{supply, used}
+use Rattle.render.proofs.Growing.{comes_grown, keeps_grown, room_there, same_grown, sound_grown}
+use Rattle.render.proofs.state.RenderState.literal.Goals as goal
+
+pub start_literal-requires-clause-spare : goal.start_literal-requires-clause-spare
+start_literal-requires-clause-spare g c =
+    let s = c.args.self.now in
+    record {
+      few = room_there g.K.Sink.sink g.K.Sink.state c.requires.goes.0 (ExprStartLiteral c.args.span (plain_of c.args.value)) s (entries s.values) c.args.span (charge (supply s.store) c.args.span (cost (plain_of c.args.value)) (plain_of c.args.value) (used s.store)) refl c.requires.goes.1;
+      roomy = c.requires.sound.values_room;
+    }
+
+pub returns-clause-sound : goal.returns-clause-sound
+returns-clause-sound g c =
+    let s = c.args.self.now in
+    sound_grown s c.start_literal.new.store c.start_literal.new.values c.start_literal.ensures.kept (entries s.values) c.args.span (charge (supply s.store) c.args.span (cost (plain_of c.args.value)) (plain_of c.args.value) (used s.store)) c.start_literal.result c.start_literal.ensures.pushes c.requires.sound
+
+pub returns-clause-same : goal.returns-clause-same
+returns-clause-same g c =
+    let s = c.args.self.now in
+    same_grown s c.start_literal.new.store c.start_literal.new.values c.start_literal.ensures.kept (entries s.values) c.args.span (charge (supply s.store) c.args.span (cost (plain_of c.args.value)) (plain_of c.args.value) (used s.store)) c.start_literal.result c.start_literal.ensures.pushes
+
+pub returns-clause-keeps : goal.returns-clause-keeps
+returns-clause-keeps g c =
+    let s = c.args.self.now in
+    keeps_grown s c.start_literal.new.store c.start_literal.new.values c.start_literal.ensures.kept (entries s.values) c.args.span (charge (supply s.store) c.args.span (cost (plain_of c.args.value)) (plain_of c.args.value) (used s.store)) c.start_literal.result c.start_literal.ensures.pushes
+
+pub returns-clause-came : goal.returns-clause-came
+returns-clause-came g c = λ given.
+    let s = c.args.self.now in
+    comes_grown g.K.Sink.sink g.K.Sink.state given (ExprStartLiteral c.args.span (plain_of c.args.value)) s (entries s.values) c.args.span (charge (supply s.store) c.args.span (cost (plain_of c.args.value)) (plain_of c.args.value) (used s.store)) c.start_literal.new.store c.start_literal.new.values c.start_literal.ensures.kept c.requires.sound
+    (room_there g.K.Sink.sink g.K.Sink.state c.requires.goes.0 (ExprStartLiteral c.args.span (plain_of c.args.value)) s (entries s.values) c.args.span (charge (supply s.store) c.args.span (cost (plain_of c.args.value)) (plain_of c.args.value) (used s.store)) refl c.requires.goes.1) refl
+    c.start_literal.result c.start_literal.ensures.pushes
