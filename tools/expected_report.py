@@ -3,7 +3,7 @@
 
     python3 tools/expected_report.py < JOB
 
-This is written from docs/FORMAT.md, docs/JOBS.md, docs/MEANING.md (what a value costs) and the
+This is written from docs/FORMAT.md, docs/JOBS.md, docs/MEANING.md (what a value costs, and what formatters write) and the
 definition of programs in crates/program/specs/Program.antt, and not from the program, to have
 something to compare the program with.
 """
@@ -26,6 +26,7 @@ NOT_ONE_SPACE = "words are separated by one space"
 MORE_WORDS = "there are more words than the call takes"
 NOT_DECIMAL = "a number is not written in decimal digits"
 TOO_LARGE = "a number is above 18446744073709551615"
+NO_FORMATTER = "no formatter of that name is known"
 
 BAD_SOURCE, MALFORMED, MISPLACED, TOO_DEEP, TOO_MANY_INSTRUCTIONS, STORE_FULL = 1, 2, 3, 4, 5, 25
 
@@ -110,6 +111,12 @@ class Load:
     value: bytes
 
 
+@dataclass(frozen=True)
+class Format:
+    formatter: str
+    value: bytes
+
+
 class Line:
     """A line of a job, and how far it is read."""
 
@@ -125,8 +132,9 @@ class Line:
         self.at += 1
         return byte
 
-    def call(self) -> Add | Supply | Load:
-        for name, read in ((b"add ", self.add), (b"supply ", self.supply), (b"load ", self.load)):
+    def call(self) -> Add | Supply | Load | Format:
+        calls = ((b"add ", self.add), (b"supply ", self.supply), (b"load ", self.load), (b"format ", self.format))
+        for name, read in calls:
             if self.line.startswith(name):
                 self.at = len(name)
                 call = read()
@@ -149,6 +157,19 @@ class Line:
 
     def load(self) -> Load:
         return Load(self.word())
+
+    def format(self) -> Format:
+        formatter = self.one_of(FORMATTERS, NO_FORMATTER)
+        self.separator()
+        return Format(formatter, self.word())
+
+    def one_of(self, names: "Iterable[str]", otherwise: str) -> str:
+        """The one of these names that stands next."""
+        for name in names:
+            if self.line.startswith(name.encode(), self.at):
+                self.at += len(name)
+                return name
+        raise BadLine(otherwise)
 
     def number(self) -> int:
         """Decimal digits, up to a space or the end."""
@@ -359,6 +380,7 @@ class PlainValue:
 
     words: bytes
     cost: Charge
+    content: None | bool | int | float | bytes = None
 
 
 @dataclass(frozen=True)
@@ -391,6 +413,55 @@ class MapValue:
 
 
 Value = PlainValue | ListValue | MapValue
+
+# FORMATTERS
+
+LONGEST_TEXT = 4096
+
+REASONS = {
+    1: "the value is of the wrong kind",
+    2: "the value is out of range",
+    4: "floats are not written",
+}
+
+
+class Unwritten(Exception):
+    """A reason for which a formatter refuses a value."""
+
+
+def plain(value: Value) -> bytes:
+    if not isinstance(value, PlainValue):
+        raise Unwritten(1)
+    match value.content:
+        case None:
+            return b""
+        case bool(told):
+            return b"true" if told else b"false"
+        case float():
+            raise Unwritten(4)
+        case int(number):
+            return b"%d" % number
+        case bytes(text):
+            return text
+
+
+def position(value: Value, width: int, limit: int, sides: bytes) -> bytes:
+    """Degrees, minutes and ten-thousandths of a minute, with the letter of the side."""
+    number = value.content if isinstance(value, PlainValue) else None
+    if not isinstance(number, int) or isinstance(number, bool):
+        raise Unwritten(1)
+    if abs(number) > limit:
+        raise Unwritten(2)
+    minutes, fraction = divmod(abs(number), 10000)
+    degrees, minutes = divmod(minutes, 60)
+    return b"%0*d-%02d.%04d %c" % (width, degrees, minutes, fraction, sides[number < 0])
+
+
+FORMATTERS = {
+    "plain": plain,
+    "lat": lambda value: position(value, 2, 54_000_000, b"NS"),
+    "lon": lambda value: position(value, 3, 108_000_000, b"EW"),
+}
 
 # COMMANDS OF A PACKED TREE OR VALUE
 
@@ -466,15 +537,16 @@ class Command:
             case Code.NONE:
                 return PlainValue(b"none", Charge(0, 0))
             case Code.FALSE:
-                return PlainValue(b"false", Charge(1, 0))
+                return PlainValue(b"false", Charge(1, 0), False)
             case Code.TRUE:
-                return PlainValue(b"true", Charge(1, 0))
+                return PlainValue(b"true", Charge(1, 0), True)
             case Code.INTEGER:
-                return PlainValue(b"integer %d" % self.number(8, signed=True), Charge(1, 0))
+                number = self.number(8, signed=True)
+                return PlainValue(b"integer %d" % number, Charge(1, 0), number)
             case Code.FLOAT:
-                return PlainValue(b"float of bits %d" % self.number(8), Charge(1, 0))
+                return PlainValue(b"float of bits %d" % self.number(8), Charge(1, 0), 0.0)
         text = self.text()
-        return PlainValue(b"string " + quoted(text), Charge(1, len(text)))
+        return PlainValue(b"string " + quoted(text), Charge(1, len(text)), text)
 
     def member(self) -> Member:
         optional, by_key = self.flag(), self.flag()
@@ -986,6 +1058,8 @@ class Report:
                 self.supply(begin + b"supply: ", call)
             case Load():
                 self.load(begin + b"load: ", call)
+            case Format():
+                self.format(begin + f"format {call.formatter}: ".encode(), call)
 
     def add(self, begin: bytes, add: Add) -> None:
         try:
@@ -1004,20 +1078,47 @@ class Report:
         words = b"%d cells and %d bytes, of which %d cells and %d bytes are used at most"
         self.take(begin + words % counts)
 
-    def load(self, begin: bytes, load: Load) -> None:
+    def unpacked(self, begin: bytes, packed: bytes) -> Value | None:
+        """A value that the store holds, or none once it is refused."""
         try:
-            value = Loaded(b"", load.value).whole()
+            value = Loaded(b"", packed).whole()
         except Refusal as refusal:
             self.refuse(begin + refused_at(refusal, b"value"))
+            return None
+        return value if self.holds(begin, value) else None
+
+    def holds(self, begin: bytes, value: Value) -> bool:
+        """Whether the store holds a value, which is refused otherwise."""
+        if value.cost.cells <= self.usable.cells and value.cost.bytes <= self.usable.bytes:
+            return True
+        self.refuse(begin + refused(Refusal(STORE_FULL)) + self.cost_words(value))
+        return False
+
+    def cost_words(self, value: Value) -> bytes:
+        costs = (value.cost.cells, self.usable.cells, value.cost.bytes, self.usable.bytes)
+        return b", cost %d cells of %d and %d bytes of %d" % costs
+
+    def load(self, begin: bytes, load: Load) -> None:
+        value = self.unpacked(begin, load.value)
+        if value is None:
             return
-        cost, usable = value.cost, self.usable
-        costs = (cost.cells, usable.cells, cost.bytes, usable.bytes)
-        cost_words = b", cost %d cells of %d and %d bytes of %d" % costs
-        if cost.cells > usable.cells or cost.bytes > usable.bytes:
-            self.refuse(begin + refused(Refusal(STORE_FULL)) + cost_words)
-            return
-        self.take(begin + b"taken, value of %d bytes" % len(load.value) + cost_words)
+        self.take(begin + b"taken, value of %d bytes" % len(load.value) + self.cost_words(value))
         self.lines += value_outline(1, value)
+
+    def format(self, begin: bytes, call: Format) -> None:
+        value = self.unpacked(begin, call.value)
+        if value is None:
+            return
+        try:
+            text = FORMATTERS[call.formatter](value)
+        except Unwritten as why:
+            (reason,) = why.args
+            self.refuse(begin + b"refused for reason %d, " % reason + REASONS[reason].encode())
+            return
+        if len(text) > LONGEST_TEXT:
+            self.refuse(begin + b"refused, the text is longer than %d bytes" % LONGEST_TEXT)
+            return
+        self.take(begin + b"taken, text of %d bytes, " % len(text) + quoted(text))
 
     def take(self, line: bytes) -> None:
         self.taken += 1

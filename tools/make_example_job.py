@@ -4,8 +4,8 @@
     python3 tools/make_example_job.py
 
 The archive has every template, packed, and behind them trees that were damaged, one for each way in
-which adding a template is refused; then values that are packed here, by docs/FORMAT.md, and loaded,
-and damaged ones. It is written to crates/plot/stdin too, and the report that is expected of it to
+which adding a template is refused; then values that are packed here, by docs/FORMAT.md, and loaded
+or formatted, and damaged ones. It is written to crates/plot/stdin too, and the report that is expected of it to
 crates/plot/stdout.
 """
 
@@ -25,9 +25,9 @@ TEMPLATES = ("deviation_card", "pot_list", "mark_file", "footer")
 
 HEADER = """\
 # An archive of packed templates, as the yard keeps them. Written by tools/make_example_job.py.
-# Each line is a call: add NAME SOURCE TREE, supply CELLS BYTES or load VALUE. Text stands in double
-# quotes, other bytes in hexadecimal digits, numbers in decimal ones. Empty lines and lines that begin
-# with # are passed over.
+# Each line is a call: add NAME SOURCE TREE, supply CELLS BYTES, load VALUE or format FORMATTER VALUE.
+# Text stands in double quotes, other bytes in hexadecimal digits, numbers in decimal ones. Empty lines
+# and lines that begin with # are passed over.
 """
 
 POT = b"Pot {{ n }}."
@@ -291,6 +291,49 @@ def bad_supplies() -> list[str]:
     return [line for what, call in bad for line in (f"# {what}", call)]
 
 
+# TEXTS
+
+
+def format_(formatter: str, value: bytes) -> str:
+    return f"format {formatter} {value.hex() or '-'}"
+
+
+def formats() -> list[str]:
+    lines = []
+    for formatter, most in (("lat", 54_000_000), ("lon", 108_000_000)):
+        lines += [f"# {formatter}: both ends and one past them, zero, and a minute"]
+        numbers = (most, -most, most + 1, -most - 1, 0, -1, 29012345, 2**63 - 1, -(2**63))
+        lines += [format_(formatter, packed(number)) for number in numbers]
+        lines += [f"# {formatter} takes nothing but integers"]
+        lines += [format_(formatter, packed(value)) for value in (None, True, 0.5, "1", [1], {"a": 1})]
+    lines += ["# The plain formatter: every kind"]
+    lines += [format_("plain", packed(value)) for value in EVERY_KIND]
+    lines += ["# 4,096 bytes, and one more"]
+    lines += [format_("plain", packed("n" * size)) for size in (4096, 4097)]
+    lines += ["# Refused as a load is."]
+    lines += [format_("plain", b""), format_("lat", packed(7)[:-1]), format_("lon", nested_lists(17))]
+    lines += ["# A store too small by one cell, and by one byte.", "supply 0 3", format_("plain", packed(7))]
+    lines += ["supply 1 2", format_("plain", packed("cod")), format_("plain", packed("co"))]
+    lines += [format_("plain", packed([7])), format_("lat", packed(None)), "supply 65535 65535"]
+    return lines
+
+
+def bad_formats() -> list[str]:
+    bad = [
+        ("a formatter that is not known", "format north 20"),
+        ("a formatter in quotes", 'format "plain" 20'),
+        ("a formatter is missing", "format "),
+        ("a value is missing", "format lat"),
+        ("a value is missing behind a space", "format lon "),
+        ("more behind a formatter", "format plainly 20"),
+        ("two spaces", "format lat  20"),
+        ("two values", "format lat 20 20"),
+        ("half a byte", "format lat 2"),
+        ("no space behind the call", "format"),
+    ]
+    return [line for what, call in bad for line in (f"# {what}", call)]
+
+
 # JOBS
 
 
@@ -313,6 +356,8 @@ def archive() -> list[str]:
     lines += ["", "# Values: each is loaded, or refused for the cause that is named.", *loads()]
     lines += ["", "# No calls: each of these supplies and loads has a word that is wrong.", *bad_supplies()]
     lines += ["", "# Still loads.", load(packed(POTS))]
+    lines += ["", "# Texts: what a formatter writes of each value.", *formats()]
+    lines += ["", "# No calls: each of these formats has a word that is wrong.", *bad_formats()]
     return lines
 
 

@@ -1,5 +1,5 @@
 -- Words of a line, read byte by byte.
-use Rattle.std.proofs.Common.{◌≡◌, ℕ, ◌+◌, ◌-◌, ◌*◌, ◌<◌, ◌≤◌, true, false, Bor, List, [], ◌∷◌, ◌++◌, length, get_or, take, drop, take_all, Some, None, Ok, Err, codes, Result, sym, refl, ap, ◌∙◌, append_assoc, arith, ne_eqb, length-drop, length-take}
+use Rattle.std.proofs.Common.{◌≡◌, ℕ, ◌+◌, ◌-◌, ◌*◌, ◌<◌, ◌≤◌, true, false, Bor, List, [], ◌∷◌, ◌++◌, length, get_or, take, drop, take_all, Some, None, Ok, Err, codes, Result, sym, refl, ap, subst, ◌∙◌, append_assoc, arith, ne_eqb, length-drop, length-take}
 use Rattle.std.proofs.lemmas.Cmp.{nat_list_eq_equiv}
 use mathlib.Core.Option.{none, some}
 use Rattle.std.specs.Str.{bytes_eq as same_text}
@@ -7,11 +7,13 @@ use Rattle.std.specs.Option.{ok_or}
 use Rattle.std.specs.declared.option.Option.{Option}
 use Rattle.meaning.specs.Or.{Or, fails, gives}
 use Rattle.calls.specs.declared.word.BadLine.{BadLine}
-use Rattle.calls.specs.declared.word.BadLine.TheVariants.{MissingWord, MoreWords, NoCall, NotHex, BadEscape, OpenQuote, NoSpace}
+use Rattle.calls.specs.declared.word.BadLine.TheVariants.{MissingWord, MoreWords, NoCall, NoFormatter, NotHex, BadEscape, OpenQuote, NoSpace}
 use Rattle.calls.specs.declared.line.Line.{Line}
+use Rattle.calls.specs.declared.line.FormatterName.{FormatterName}
+use Rattle.calls.specs.declared.line.FormatterName.TheVariants.{Plain, Lat, Lon}
 use Rattle.calls.specs.declared.word.Failure.{Failure}
 use Rattle.calls.specs.declared.word.Failure.TheVariants.{Memory, Bad}
-use Rattle.calls.specs.Calls.{Asks, Called, added, call_of, line_end, loaded, named, passed_over, read_off, space, supplied}
+use Rattle.calls.specs.Calls.{Asks, Call, Called, added, call_of, formatted, formatter, line_end, loaded, named, passed_over, read_off, space, supplied}
 use Rattle.calls.specs.Words.{NextDigit, Reads, Told, before, behind_backslash, digit, hex, second_digit, unescaped, unquote, word}
 
 -- bytes that were read before the others
@@ -193,6 +195,40 @@ unfolding loaded
 packed_fails means words Memory told = tt
 packed_fails means words (Bad b) told = rw told
 
+-- that no call stands there
+pub called_bad : {o : Or BadLine Call} (e : Failure) (bad : BadLine) → e ≡ Bad bad → o ≡ fails bad → Called o (Err e)
+called_bad {o} e bad is fail = subst (λ e. Called o (Err e)) (sym is) fail
+
+-- where the value of a format fails
+pub value_fails : {X : Type 0} (means : X → List ℕ) (words : List ℕ) (name : FormatterName) (behind_name second : List ℕ) → formatter words ≡ gives (name, behind_name) → space behind_name ≡ gives (tt, second) → (e : Failure) → Told means second word (Err e) → Called (read_off (formatted words)) (Err e)
+unfolding formatted
+value_fails means words name behind_name second first gap Memory told = tt
+value_fails means words name behind_name second first gap (Bad b) told = rw (first, gap, told)
+
+-- the word of a formatter
+module _ (words rest : List ℕ) where
+  pub is_plain : same_text (take 5 words) (codes "plain") ≡ true → rest ≡ drop 5 words → formatter words ≡ gives (Plain, rest)
+  unfolding formatter
+  is_plain same left = rw (nat_list_eq_equiv.symm (codes "plain") (take 5 words), same, ← left) refl
+
+  module _ (not_plain : same_text (take 5 words) (codes "plain") ≡ false) where
+    pub is_lat : same_text (take 3 words) (codes "lat") ≡ true → rest ≡ drop 3 words → formatter words ≡ gives (Lat, rest)
+    unfolding formatter
+    is_lat same left =
+        rw (nat_list_eq_equiv.symm (codes "plain") (take 5 words), not_plain, nat_list_eq_equiv.symm (codes "lat") (take 3 words), same, ← left) refl
+
+    module _ (not_lat : same_text (take 3 words) (codes "lat") ≡ false) where
+      pub is_lon : same_text (take 3 words) (codes "lon") ≡ true → rest ≡ drop 3 words → formatter words ≡ gives (Lon, rest)
+      unfolding formatter
+      is_lon same left =
+          rw (nat_list_eq_equiv.symm (codes "plain") (take 5 words), not_plain, nat_list_eq_equiv.symm (codes "lat") (take 3 words), not_lat, nat_list_eq_equiv.symm (codes "lon") (take 3 words), same, ← left) refl
+
+-- no formatter has the word
+pub is_unnamed : (words : List ℕ) → same_text (take 5 words) (codes "plain") ≡ false → same_text (take 3 words) (codes "lat") ≡ false → same_text (take 3 words) (codes "lon") ≡ false → formatter words ≡ fails NoFormatter
+unfolding formatter
+is_unnamed words not_plain not_lat not_lon =
+    rw (nat_list_eq_equiv.symm (codes "plain") (take 5 words), not_plain, nat_list_eq_equiv.symm (codes "lat") (take 3 words), not_lat, nat_list_eq_equiv.symm (codes "lon") (take 3 words), not_lon) refl
+
 -- the name of a call, and what is read behind it
 module _ (line words : List ℕ) where
   pub is_add : same_text (take 4 line) (codes "add ") ≡ true → words ≡ drop 4 line → (r : Result Line Failure) → Called (read_off (added words)) r → Called (named line) r
@@ -207,9 +243,14 @@ module _ (line words : List ℕ) where
       is_load same left r told =
           rw (nat_list_eq_equiv.symm (codes "add ") (take 4 line), not_add, nat_list_eq_equiv.symm (codes "supply ") (take 7 line), not_supply, nat_list_eq_equiv.symm (codes "load ") (take 5 line), same, ← left) told
 
-      pub is_none : same_text (take 5 line) (codes "load ") ≡ false → named line ≡ fails NoCall
-      is_none same =
-          rw (nat_list_eq_equiv.symm (codes "add ") (take 4 line), not_add, nat_list_eq_equiv.symm (codes "supply ") (take 7 line), not_supply, nat_list_eq_equiv.symm (codes "load ") (take 5 line), same)
+      module _ (not_load : same_text (take 5 line) (codes "load ") ≡ false) where
+        pub is_format : same_text (take 7 line) (codes "format ") ≡ true → words ≡ drop 7 line → (r : Result Line Failure) → Called (read_off (formatted words)) r → Called (named line) r
+        is_format same left r told =
+            rw (nat_list_eq_equiv.symm (codes "add ") (take 4 line), not_add, nat_list_eq_equiv.symm (codes "supply ") (take 7 line), not_supply, nat_list_eq_equiv.symm (codes "load ") (take 5 line), not_load, nat_list_eq_equiv.symm (codes "format ") (take 7 line), same, ← left) told
+
+        pub is_none : same_text (take 7 line) (codes "format ") ≡ false → named line ≡ fails NoCall
+        is_none same =
+            rw (nat_list_eq_equiv.symm (codes "add ") (take 4 line), not_add, nat_list_eq_equiv.symm (codes "supply ") (take 7 line), not_supply, nat_list_eq_equiv.symm (codes "load ") (take 5 line), not_load, nat_list_eq_equiv.symm (codes "format ") (take 7 line), same)
 
 -- a line that is neither empty nor a comment
 module _ (line : List ℕ) (h : 1 ≤ length line) (other : get_or line 0 0 ≡ 35 → ⊥) where
@@ -244,6 +285,10 @@ pub ruleset supplies = (line_none, line_more)
 
 pub ruleset loads = (line_none, line_more, packed_fails)
 
-pub ruleset names = (is_add, is_supply, is_load, is_none)
+pub ruleset formatters = (is_plain, is_lat, is_lon, is_unnamed)
+
+pub ruleset formats = (line_none, line_more, value_fails)
+
+pub ruleset names = (is_add, is_supply, is_load, is_format, is_none)
 
 pub ruleset lines = (nothing_asked, comment_asks, line_calls, line_fails)

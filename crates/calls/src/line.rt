@@ -1,11 +1,19 @@
 //! The lines of a job: what each asks for.
 
 ghost use Rattle.std.specs.Prelude.{◌≡◌};
-ghost use Rattle.calls.specs.Calls.{Asks, Called, CalledAtOnce, Skips, added, loaded, named, read_off, supplied, without_last};
+ghost use Rattle.calls.specs.Calls.{Asks, Called, CalledAtOnce, NamesFormatter, Skips, added, formatted, loaded, named, read_off, supplied, without_last};
 
 use crate::number::read_number;
 use crate::word::{BadLine, Failure, read_word};
 use std::alloc::Global;
+
+/// A formatter, by its word.
+#[derive(Clone, Copy)]
+pub enum FormatterName {
+    Plain,
+    Lat,
+    Lon,
+}
 
 /// What a line asks for.
 #[derive(Drop)]
@@ -23,6 +31,11 @@ pub enum Line {
     },
     /// A packed value, to be loaded.
     Load {
+        packed: Vec<u8>,
+    },
+    /// A packed value, to be written as text.
+    Format {
+        formatter: FormatterName,
         packed: Vec<u8>,
     },
 }
@@ -81,6 +94,36 @@ fn read_load(heap: Global, words: &[u8]) -> Result<Line, Failure>
     }
 }
 
+/// The formatter that is named at the front, and what is behind its name.
+#[tactic(auto, using(crate::proofs::Wording::formatters))]
+fn read_formatter(words: &[u8]) -> Result<(FormatterName, &[u8]), BadLine>
+    ensures { NamesFormatter words.now result }
+{
+    if let Some(rest) = words.strip_prefix(b"plain") {
+        Ok((FormatterName::Plain, rest))
+    } else if let Some(rest) = words.strip_prefix(b"lat") {
+        Ok((FormatterName::Lat, rest))
+    } else if let Some(rest) = words.strip_prefix(b"lon") {
+        Ok((FormatterName::Lon, rest))
+    } else {
+        Err(BadLine::NoFormatter)
+    }
+}
+
+/// A packed value that is to be written by a formatter, and nothing behind it.
+#[tactic(auto, unfolding(crate::specs::Calls::formatted), using(crate::proofs::Wording::formats))]
+fn read_format(heap: Global, words: &[u8]) -> Result<Line, Failure>
+    ensures { Called (read_off (formatted words.now)) result }
+{
+    let (formatter, name_rest) = read_formatter(words)?;
+    let value_word = skip_space(name_rest)?;
+    let (packed, rest) = read_word(heap, value_word)?;
+    match rest {
+        [] => Ok(Line::Format { formatter, packed }),
+        _ => Err(BadLine::MoreWords.into()),
+    }
+}
+
 /// The call whose name the line begins with.
 #[tactic(auto, using(crate::proofs::Wording::names))]
 fn read_call(heap: Global, line: &[u8]) -> Result<Line, Failure>
@@ -92,6 +135,8 @@ fn read_call(heap: Global, line: &[u8]) -> Result<Line, Failure>
         Ok(read_supply(words)?)
     } else if let Some(words) = line.strip_prefix(b"load ") {
         read_load(heap, words)
+    } else if let Some(words) = line.strip_prefix(b"format ") {
+        read_format(heap, words)
     } else {
         Err(BadLine::NoCall.into())
     }

@@ -31,6 +31,8 @@ pub enum BadLine {
     NotDecimal,
     /// A number does not fit 64 bits.
     TooLarge,
+    /// No formatter has that name.
+    NoFormatter,
 }
 
 impl Display for BadLine {
@@ -52,6 +54,7 @@ impl Display for BadLine {
             BadLine::MoreWords => f.write_str("there are more words than the call takes"),
             BadLine::NotDecimal => f.write_str("a number is not written in decimal digits"),
             BadLine::TooLarge => f.write_str("a number is above 18446744073709551615"),
+            BadLine::NoFormatter => f.write_str("no formatter of that name is known"),
         }
     }
 }

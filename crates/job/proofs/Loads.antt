@@ -20,7 +20,7 @@ use Rattle.job.specs.Values.{outline_value}
 use Rattle.job.specs.declared.report.Came.{Came}
 
 -- what unpacking answers, once its cost is tested
-abbrev tested : Charge → Or Fault Value → Or Fault Value
+abbrev pub tested : Charge → Or Fault Value → Or Fault Value
 tested most o = o >>= λ v. refuse_if (not (within most (cost v))) (fault StoreFull 0) >> gives v
 
 -- VALUES

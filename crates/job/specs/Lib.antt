@@ -8,5 +8,6 @@ pub mod Values
 pub mod Stored
 pub mod Supplies
 pub mod Loads
+pub mod Formats
 pub mod Report
 pub mod Reported

@@ -9,12 +9,14 @@ use Rattle.calls.specs.BadLines.{bad_words}
 use Rattle.calls.specs.declared.word.BadLine.{BadLine}
 use Rattle.job.specs.declared.report.Came.{Came}
 use Rattle.job.specs.declared.report.Counts.{Counts}
-use Rattle.calls.specs.Calls.{Call, passed_over, add, supply, load}
+use Rattle.calls.specs.Calls.{Call, passed_over, add, supply, load, format}
 use Rattle.job.specs.Causes.{refused_by}
 use Rattle.job.specs.Lines.{quoted}
 use Rattle.job.specs.Outline.{outline_scope}
 use Rattle.job.specs.Listing.{listing}
 use Rattle.job.specs.Loads.{came_of_load, load_words}
+use Rattle.job.specs.Formats.{came_of_format, format_heading, format_words}
+use Rattle.asking.specs.Formats.{formatter_named}
 use Rattle.job.specs.Supplies.{supply_words, usable}
 
 abbrev pub heading : (line_number : ℕ) → List ℕ
@@ -50,6 +52,7 @@ call_words used n (gives passed_over) = []
 call_words used n (gives (add name source tree)) = add_words n name source tree
 call_words used n (gives (supply cells bytes)) = heading n ++ supply_words cells bytes (usable cells bytes)
 call_words used n (gives (load packed)) = heading n ++ codes "load: " ++ load_words used packed
+call_words used n (gives (format name packed)) = heading n ++ format_heading name ++ format_words used (formatter_named name) packed
 call_words used n (fails bad) = bad_line n bad
 
 abbrev pub came_of_add : Or Fault Scope → Came
@@ -61,6 +64,7 @@ came_of used (gives passed_over) = Came.Passed
 came_of used (gives (add name source tree)) = came_of_add (unpack source tree)
 came_of used (gives (supply cells bytes)) = Came.Taken
 came_of used (gives (load packed)) = came_of_load used packed
+came_of used (gives (format name packed)) = came_of_format used (formatter_named name) packed
 came_of used (fails bad) = Came.NoCall
 
 -- what may be used of the supply after the line
@@ -69,6 +73,7 @@ usable_after used (gives passed_over) = used
 usable_after used (gives (add name source tree)) = used
 usable_after used (gives (supply cells bytes)) = usable cells bytes
 usable_after used (gives (load packed)) = used
+usable_after used (gives (format name packed)) = used
 usable_after used (fails bad) = used
 
 -- the last line of a report

@@ -2,6 +2,7 @@
 
 #![tactic(auto)]
 
+mod formatted;
 mod lines;
 mod listing;
 mod loaded;

@@ -38,7 +38,12 @@ impl Report {
     }
 
     /// Why packed bytes were refused: in the bytes themselves, or for what their value costs.
-    fn put_not_loaded(&mut self, lent: Tally, packed: &[u8], fault: Fault) -> Result<(), AllocError>
+    pub(crate) fn put_not_loaded(
+        &mut self,
+        lent: Tally,
+        packed: &[u8],
+        fault: Fault,
+    ) -> Result<(), AllocError>
         requires { loaded (charged lent) packed.now ≡ fails (fault_of fault) }
         ensures { Wrote (load_words (charged lent) packed.now) result self.old self.new }
     {

@@ -9,13 +9,15 @@ ghost use Rattle.job.specs.Lines.{Wrote};
 ghost use Rattle.job.specs.Causes.{cause_words, refused_by};
 ghost use Rattle.job.specs.Report.{add_words, bad_line, call_words, came_of, came_of_add, counts_words, heading, place_words, refused_words, taken_words, usable_after, verdict_words};
 ghost use Rattle.job.specs.Reported.{CameTo, counted, no_counts, one_more};
+ghost use Rattle.asking.specs.Formats.{formatter_named};
+ghost use Rattle.job.specs.Formats.{came_of_format, format_heading, format_words};
 ghost use Rattle.job.specs.Loads.{came_of_load, load_words};
 ghost use Rattle.job.specs.Supplies.{supply_words, usable};
 
 pub use crate::lines::Report;
 use crate::outline::outline;
 use crate::supply::Supply;
-use calls::line::{Line, read_line};
+use calls::line::{FormatterName, Line, read_line};
 use calls::word::{BadLine, Failure};
 use checker::template::Template;
 use meaning::fault::{Cause, Fault};
@@ -234,6 +236,27 @@ impl Report {
         supply.load(packed, self)
     }
 
+    /// Loads a value, and says what the formatter writes of it.
+    fn put_format(
+        &mut self,
+        supply: &mut Supply,
+        number: u64,
+        formatter: FormatterName,
+        packed: &[u8],
+    ) -> Result<Came, AllocError>
+        ensures wrote { Wrote (heading number ++ format_heading formatter ++ format_words supply.old (formatter_named formatter) packed.now) result self.old self.new }
+        ensures came { CameTo (came_of_format supply.old (formatter_named formatter) packed.now) result }
+        ensures supplied { supply.new ≡ supply.old }
+    {
+        self.put_heading(number)?;
+        match formatter {
+            FormatterName::Plain => self.put(b"format plain: ")?,
+            FormatterName::Lat => self.put(b"format lat: ")?,
+            FormatterName::Lon => self.put(b"format lon: ")?,
+        }
+        supply.format(formatter, packed, self)
+    }
+
     /// That a line is no call, and why.
     fn put_bad(&mut self, number: u64, bad: BadLine) -> Result<Came, AllocError>
         ensures wrote { Wrote (bad_line number bad) result self.old self.new }
@@ -264,6 +287,9 @@ impl Report {
                 self.put_supply(supply, number, cells, bytes)
             }
             Ok(Some(Line::Load { packed })) => self.put_load(supply, number, packed.as_slice()),
+            Ok(Some(Line::Format { formatter, packed })) => {
+                self.put_format(supply, number, formatter, packed.as_slice())
+            }
             Err(Failure::Memory) => Err(AllocError),
             Err(Failure::Bad(bad)) => self.put_bad(number, bad),
         }

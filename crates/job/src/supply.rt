@@ -4,14 +4,18 @@ ghost use Rattle.std.specs.Prelude.{◌≡◌, IfOk, length};
 ghost use Rattle.meaning.specs.Charge.{Charge};
 ghost use Rattle.store.specs.Stores.{charged};
 ghost use Rattle.store.specs.Supplied.{Supplied};
+ghost use Rattle.asking.specs.Formats.{formatter_named};
+ghost use Rattle.job.specs.Formats.{came_of_format, format_words};
 ghost use Rattle.job.specs.Lines.{Wrote};
 ghost use Rattle.job.specs.Loads.{came_of_load, load_words};
 ghost use Rattle.job.specs.Reported.{CameTo};
 ghost use Rattle.job.specs.Supplies.{usable};
 
+use crate::formatted::format_in;
 use crate::lines::Report;
 use crate::loaded::load_in;
 use crate::report::Came;
+use calls::line::FormatterName;
 use std::alloc::{AllocError, Global};
 use std::marker::Model;
 use store::cell::Cell;
@@ -68,6 +72,27 @@ impl Supply {
             self.cells.as_mut_slice(),
             self.text.as_mut_slice(),
             &mut self.tally,
+            packed,
+            report,
+        )
+    }
+
+    /// Loads the packed value in place of what was loaded before, and reports what the formatter writes of it.
+    pub(crate) fn format(
+        &mut self,
+        formatter: FormatterName,
+        packed: &[u8],
+        report: &mut Report,
+    ) -> Result<Came, AllocError>
+        ensures wrote { Wrote (format_words self.old (formatter_named formatter) packed.now) result report.old report.new }
+        ensures came { CameTo (came_of_format self.old (formatter_named formatter) packed.now) result }
+        ensures same { self.new ≡ self.old }
+    {
+        format_in(
+            self.cells.as_mut_slice(),
+            self.text.as_mut_slice(),
+            &mut self.tally,
+            formatter,
             packed,
             report,
         )
