@@ -51,7 +51,6 @@ pub fn ask_function<C: Callables>(
     site: Span,
     whole: Span,
 ) -> Result<Ref, Fault>
-    requires function { kind_of (C.Callables.named callables.now function.now) ≡ Some CallableKind.Function }
     requires known { AllKnown store.old args.now }
     ensures { Tells store.old store.new (asked (supply store.old) (function_of (C.Callables.named callables.now function.now)) site whole (arguments_in store.old args.now) (used store.old)) result }
 {

@@ -73,7 +73,6 @@ fn write_named<C: Callables>(
     span: Span,
     buffer: &mut [u8],
 ) -> Result<Written, Fault>
-    requires formatter { kind_of (C.Callables.named callables.now formatter.now) ≡ Some CallableKind.Formatter }
     requires known { Known store.now value }
     requires long { length buffer.old ≡ MOST_TEXT }
     ensures { (setting : Setting) (source : List ℕ) (visible : List Visible) → Writes store.now store.now buffer.new (write setting source visible (formatter_of (C.Callables.named callables.now formatter.now)) span (value_in store.now value) (used store.now)) result }

@@ -1,12 +1,13 @@
 //! The chart set.
 
-ghost use Rattle.meaning.specs.Formatters.{chart_set, len, size};
+ghost use Rattle.std.specs.Prelude.{◌≡◌, [], ◌∷◌, length};
+ghost use Rattle.meaning.specs.Formatters.{chart_set, len, of_integer, position, size};
 ghost use Rattle.store.specs.Stores.{Known, value as value_in};
-ghost use Rattle.hosts.specs.Answers.{AllKnown, Answers, blame_of, values_in};
+ghost use Rattle.hosts.specs.Answers.{AllKnown, Answers, Within, blame_of, fitted, values_in, written};
 ghost use Rattle.formatters.specs.ChartTexts.{chart_texts};
 
-use crate::position::{LAT, LON};
-use crate::reasons::{WRONG_COUNT, WRONG_KIND};
+use crate::position::{Axis, LAT, LON};
+use crate::reasons::{NO_FORMATTER, NO_FUNCTION, WRONG_COUNT, WRONG_KIND};
 use hosts::answer::{Argument, CallableKind, Refusal, Unmade, Unwritten};
 use hosts::callables::Callables;
 use store::cell::Ref;
@@ -37,14 +38,10 @@ impl Callables for ChartSet {
         value: Ref,
         buffer: &mut [u8],
     ) -> Result<usize, Unwritten> {
-        if store.kind(value) != Kind::Integer {
-            return Err(Unwritten::Refused(WRONG_KIND));
-        }
-        let n = store.integer(value);
         match name {
-            b"lat" => LAT.write(n, buffer),
-            b"lon" => LON.write(n, buffer),
-            _ => unreachable(),
+            b"lat" => write_position(LAT, store, value, buffer),
+            b"lon" => write_position(LON, store, value, buffer),
+            _ => Err(Unwritten::Refused(NO_FORMATTER)),
         }
     }
 
@@ -56,9 +53,26 @@ impl Callables for ChartSet {
     ) -> Result<Ref, Unmade<Refusal>> {
         match name {
             b"len" => make_len(args, store),
-            _ => unreachable(),
+            _ => Err(Unmade::Refused(NO_FUNCTION)),
         }
     }
+}
+
+/// Writes an integer as a position along the axis. Another kind of value is none.
+fn write_position(
+    axis: Axis,
+    store: &Store,
+    value: Ref,
+    buffer: &mut [u8],
+) -> Result<usize, Unwritten>
+    requires { Known store.now value }
+    ensures answers { written result buffer.new ≡ fitted (length buffer.old) (of_integer (position axis.width axis.limit (axis.positive ∷ []) (axis.negative ∷ [])) (value_in store.now value)) }
+    ensures within { Within result buffer.old }
+{
+    if store.kind(value) != Kind::Integer {
+        return Err(Unwritten::Refused(WRONG_KIND));
+    }
+    axis.write(store.integer(value), buffer)
 }
 
 /// The function `len`.

@@ -2,6 +2,7 @@
 
 ghost use Rattle.meaning.specs.Formatters.{no_callables};
 
+use crate::reasons::{NO_FORMATTER, NO_FUNCTION};
 use hosts::answer::{Argument, CallableKind, Refusal, Unmade, Unwritten};
 use hosts::callables::Callables;
 use store::cell::Ref;
@@ -27,7 +28,7 @@ impl Callables for NoCallables {
         _value: Ref,
         _buffer: &mut [u8],
     ) -> Result<usize, Unwritten> {
-        unreachable()
+        Err(Unwritten::Refused(NO_FORMATTER))
     }
 
     fn call(
@@ -36,6 +37,6 @@ impl Callables for NoCallables {
         _args: &[Argument],
         _store: &mut Store,
     ) -> Result<Ref, Unmade<Refusal>> {
-        unreachable()
+        Err(Unmade::Refused(NO_FUNCTION))
     }
 }

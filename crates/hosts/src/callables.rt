@@ -20,7 +20,8 @@ pub trait Callables {
     fn kind(&self, name: &[u8]) -> Option<CallableKind>
         ensures { result ≡ kind_of (named self.now name.now) };
 
-    /// The formatter of that name: it writes the text to the front of the buffer and answers its length.
+    /// The formatter of that name: it writes the text to the front of the buffer and answers its length. Where the name stands
+    /// for none it refuses with reason 0.
     fn format(
         &self,
         name: &[u8],
@@ -28,19 +29,18 @@ pub trait Callables {
         value: Ref,
         buffer: &mut [u8],
     ) -> Result<usize, Unwritten>
-        requires formatter { kind_of (named self.now name.now) ≡ Some CallableKind.Formatter }
         requires known { Known store.now value }
         ensures answers { written result buffer.new ≡ fitted (length buffer.old) (formatter_of (named self.now name.now) (value_in store.now value)) }
         ensures within { Within result buffer.old };
 
-    /// The function of that name: its answer is made in the store, and charged whole.
+    /// The function of that name: its answer is made in the store, and charged whole. Where the name stands for none it
+    /// refuses with reason 0 and blames no argument.
     fn call(
         &self,
         name: &[u8],
         args: &[Argument],
         store: &mut Store,
     ) -> Result<Ref, Unmade<Refusal>>
-        requires function { kind_of (named self.now name.now) ≡ Some CallableKind.Function }
         requires known { AllKnown store.old args.now }
         ensures { Answers blame_of store.old store.new (function_of (named self.now name.now) (values_in store.old args.now)) result };
 }
