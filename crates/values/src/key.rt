@@ -11,7 +11,8 @@ use reader::field::read_text;
 pub fn is_before(a: &[u8], b: &[u8]) -> bool
     ensures { result ≡ precedes a.now b.now }
 {
-    a < b
+    // `cmp` passes over equal bytes in groups, where `<` takes them one by one
+    a.cmp(&b).is_lt()
 }
 
 /// A key, which has to come after the key before it.
