@@ -46,5 +46,8 @@ pub fn count_lines(piece: &[u8]) -> usize
     ensures counts { result ≡ line_feeds piece.now }
     ensures within { result ≤ length piece.now }
 {
-    piece.iter().filter(|b| **b == b'\n').count()
+    piece.iter().fold(
+        0usize,
+        |lines, byte| lines.wrapping_add(usize::from(*byte == b'\n')),
+    )
 }
