@@ -35,27 +35,39 @@ pub enum BadLine {
     NoFormatter,
 }
 
+impl BadLine {
+    /// Why the line is no call.
+    fn words(self) -> &'static str
+        ensures { result.now ≡ bad_words self }
+    {
+        match self {
+            BadLine::NoCall => "it begins with no call that is known",
+            BadLine::MissingWord => "a word is missing",
+            BadLine::NotHex => "a word is neither hexadecimal digits, -, nor text in double quotes",
+            BadLine::OddDigits => "a word has an odd number of hexadecimal digits",
+            BadLine::BadEscape => "a backslash stands before a byte that it cannot stand before",
+            BadLine::OpenQuote => "a text has no closing quote",
+            BadLine::NoSpace => "words are separated by one space",
+            BadLine::MoreWords => "there are more words than the call takes",
+            BadLine::NotDecimal => "a number is not written in decimal digits",
+            BadLine::TooLarge => "a number is above 18446744073709551615",
+            BadLine::NoFormatter => "no formatter of that name is known",
+        }
+    }
+}
+
+/// Why a line is no call, in words. It cannot fail, as a `Display` can where its writer does.
+pub fn words_of_bad(bad: BadLine) -> &'static [u8]
+    ensures { result.now ≡ bad_words bad }
+{
+    bad.words().as_bytes()
+}
+
 impl Display for BadLine {
     ghost output = { λ bad. Some (bad_words bad) };
 
     fn fmt<W: fmt::Write>(&self, f: &mut Formatter<W>) -> fmt::Result {
-        match self {
-            BadLine::NoCall => f.write_str("it begins with no call that is known"),
-            BadLine::MissingWord => f.write_str("a word is missing"),
-            BadLine::NotHex => f.write_str(
-                "a word is neither hexadecimal digits, -, nor text in double quotes",
-            ),
-            BadLine::OddDigits => f.write_str("a word has an odd number of hexadecimal digits"),
-            BadLine::BadEscape => f.write_str(
-                "a backslash stands before a byte that it cannot stand before",
-            ),
-            BadLine::OpenQuote => f.write_str("a text has no closing quote"),
-            BadLine::NoSpace => f.write_str("words are separated by one space"),
-            BadLine::MoreWords => f.write_str("there are more words than the call takes"),
-            BadLine::NotDecimal => f.write_str("a number is not written in decimal digits"),
-            BadLine::TooLarge => f.write_str("a number is above 18446744073709551615"),
-            BadLine::NoFormatter => f.write_str("no formatter of that name is known"),
-        }
+        f.write_str(self.words())
     }
 }
 

@@ -18,6 +18,7 @@ pub use crate::lines::Report;
 use crate::outline::outline;
 use crate::supply::Supply;
 use calls::line::{FormatterName, Line, read_line};
+pub use calls::word::words_of_bad;
 use calls::word::{BadLine, Failure};
 use checker::template::Template;
 use meaning::fault::{Cause, Fault};
