@@ -4,5 +4,6 @@ pub mod Operands
 pub mod Rows
 pub mod Arms
 pub mod Emits
+pub mod Fewer
 pub mod StmtArms
 pub mod Wholes
